@@ -1,6 +1,7 @@
 // The conditions under which an instruction is carried out.
 ghost use mathlib.Core.Path.{_≡_};
 ghost use Prim.Native.Nat.{_<_};
+ghost use lib.ListN.{length};
 ghost use Rattle.std.specs.Options.{Cases};
 ghost use Rattle.armv7.specs.Conditions.{condition-number, condition-name};
 
@@ -45,7 +46,8 @@ const CONDITION_NAMES: [&[u8]; 15] = [
 impl ConditionCode {
     // The two letters that it is printed under.
     pub fn name(&self) -> &'static [u8]
-        ensures { λ r. ⌜ now r ≡ condition-name (now (self .entry)) ⌝ }
+        ensures value { λ r. ⌜ now r ≡ condition-name (now (self .entry)) ⌝ }
+        ensures size { λ r. ⌜ length (now r) ≡ 2 ⌝ }
     {
         CONDITION_NAMES[*self as usize]
     }

@@ -15,7 +15,8 @@ use Rattle.std.specs.declared.option.Option.the-variants.{Some, None}
 use Rattle.std.specs.declared.result.Result.{Result}
 use Rattle.std.specs.declared.result.Result.the-variants.{Ok, Err}
 use Rattle.armv7.specs.declared.fault.Fault.{Fault}
-use Rattle.armv7.specs.Faults.{Refusal, refused-with, no-operand}
+use Rattle.std.specs.Results.{ErrBy}
+use Rattle.armv7.specs.Faults.{Refusal, refusal, refused-with, no-operand}
 use Rattle.sink.specs.declared.sink.Edge.{Edge}
 use Rattle.sink.specs.declared.sink.Mark.{Mark}
 use Rattle.sink.specs.declared.sink.Span.{Span}
@@ -82,6 +83,10 @@ last-mark ms x limit h =
     let whole : length ms + (limit - length ms) ≡ limit = omega arith in
     sym (one-more ms x limit h) ∙ sym (take-append-add ms (x ∷ []) (limit - length ms)) ∙ ap (λ n. take n (ms ++ x ∷ [])) whole
 
+pub broke : {A : Type 0} (r : Result A Fault) (d : Fault) → ErrBy r (λ y. y ≡ d) → outcome r ≡ Some (refusal d)
+broke (Ok x) d e = absurd e
+broke (Err y) d e = ap (λ f. Some (refusal f)) e
+
 module _ {S : Type 0} {meaning : S → Meaning} {kept : S → S → Type 0} (laws : Laws meaning kept) where
   -- what was printed whole can be followed
   pub both : (a b : List Item) {s t u : S} {r : Option Refusal} → Printed meaning kept a s None t → Printed meaning kept b t r u → Printed meaning kept (a ++ b) s r u
@@ -131,6 +136,10 @@ module _ {S : Type 0} {meaning : S → Meaning} {kept : S → S → Type 0} (law
         rest = k;
       }
 
+  -- a write of a piece that is known under another name
+  pub wrote-as : {p : List ℕ} (q : List ℕ) {s t : S} {r : Option Refusal} → p ≡ q → meaning t ≡ appended p (meaning s) → r ≡ full-below (room (meaning s)) (length p) → kept s t → Printed meaning kept (text-items q) s r t
+  wrote-as {p} q {s} {t} {r} n e f k = subst (λ x. Printed meaning kept (text-items x) s r t) n (wrote p e f k)
+
   -- what an edge promises
   pub edged : (e : Edge) (k : Span) {s t : S} → meaning t ≡ marked e k (meaning s) → kept s t → Printed meaning kept (edge e k ∷ []) s None t
   unfolding holding
@@ -142,6 +151,6 @@ module _ {S : Type 0} {meaning : S → Meaning} {kept : S → S → Type 0} (law
         rest = x;
       }
 
-  -- what a call that went well handed over
-  pub went : (a : List Item) {A : Type 0} {s t : S} {x : Result A Fault} {y : A} → Printed meaning kept a s (outcome x) t → x ≡ Ok y → Printed meaning kept a s None t
-  went a {s = s} {t} p e = subst (λ r. Printed meaning kept a s (outcome r) t) e p
+  -- a call whose refusal was handed on
+  pub stop : (a b : List Item) {A : Type 0} {s t : S} (r : Result A Fault) (d : Fault) → Printed meaning kept a s (Some (refusal d)) t → ErrBy r (λ y. y ≡ d) → Printed meaning kept (a ++ b) s (outcome r) t
+  stop a b {s = s} {t} r d p e = subst (λ o. Printed meaning kept (a ++ b) s o t) (sym (broke r d e)) (halt a b p)

@@ -115,3 +115,10 @@ one-more xs x limit h = by (ltb (length xs) limit) refl
 -- the length of the first n elements
 pub front-length : {A : Type 0} (xs : List A) (n least : ℕ) → length xs < 2 ^ 64 → least ≡ min n (length xs) → least ≡ length (take n (lent xs))
 front-length xs n least bits e = e ∙ sym (length-take n xs) ∙ sym (ap (λ l. length (take n l)) (all-lent xs bits))
+
+pub lent-length : {A : Type 0} (xs : List A) → length xs < 2 ^ 64 → length (lent xs) ≡ length xs
+lent-length xs bits = ap length (all-lent xs bits)
+
+-- the elements in use
+pub front-taken : {A : Type 0} (xs : List A) (n least : ℕ) → length xs < 2 ^ 64 → least ≡ min n (length xs) → take least xs ≡ take n (lent xs)
+front-taken xs n least bits e = ap (λ k. take k xs) e ∙ take-min n xs ∙ sym (ap (take n) (all-lent xs bits))

@@ -27,6 +27,10 @@ pub record Laws {S : Type 0} (meaning : S → Meaning) (kept : S → S → Type 
   pub stays : (s : S) → kept s s
   pub lasts : (s t u : S) → kept s t → kept t u → kept s u
 
+-- a sink that holds nothing yet
+abbrev pub with-room : ℕ → ℕ → Meaning
+with-room bytes marks = record { text = []; limit = bytes; marks = []; mark-limit = marks }
+
 -- how many bytes more it takes
 abbrev pub room : Meaning → ℕ
 room m = m .limit - length (m .text)

@@ -1,7 +1,8 @@
 // A sink that holds text in lent bytes, and marks in a lent row.
 ghost use denote.Ref.{name};
 ghost use mathlib.Core.Path.{_≡_};
-ghost use Rattle.sink.specs.Meaning.{marked};
+ghost use lib.ListN.{length, take};
+ghost use Rattle.sink.specs.Meaning.{with-room, marked};
 ghost use Rattle.sink.specs.MarkSinks.{mark-meaning, MarkKept, mark-laws};
 use crate::lent::append;
 use crate::lent::told;
@@ -24,7 +25,7 @@ pub struct MarkSink<'a> {
 impl<'a> MarkSink<'a> {
     // A sink with no text and no marks yet, with as much room as there are bytes, and for as many marks as the row is long.
     pub fn new(buf: &'a mut [u8], row: &'a mut [Mark]) -> MarkSink<'a>
-        ensures empty { λ r. ⌜ (r .len ≡ 0) × (r .count ≡ 0) ⌝ }
+        ensures empty { λ r. ⌜ mark-meaning r ≡ with-room (length (now (buf .entry))) (length (now (row .entry))) ⌝ }
         ensures memory { λ r. ⌜ (now (r .buf) ≡ now (buf .entry)) × (name (r .buf) ≡ name (buf .entry)) ⌝ }
         ensures row { λ r. ⌜ (now (r .row) ≡ now (row .entry)) × (name (r .row) ≡ name (row .entry)) ⌝ }
     {
@@ -40,15 +41,17 @@ impl<'a> MarkSink<'a> {
     pub fn end(self) -> (usize, usize)
         ensures memory { λ r. ⌜ now (self .exit .0) ≡ now (self .entry .buf) ⌝ }
         ensures row { λ r. ⌜ now (self .exit .1 .1 .0) ≡ now (self .entry .row) ⌝ }
-        ensures value { λ r. ⌜ (r .0 ≡ self .entry .len) × (r .1 ≡ self .entry .count) ⌝ }
+        ensures text { λ r. ⌜ take (r .0) (now (self .entry .buf)) ≡ mark-meaning (self .entry) .text ⌝ }
+        ensures marks { λ r. ⌜ take (r .1) (now (self .entry .row)) ≡ mark-meaning (self .entry) .marks ⌝ }
+        ensures value { λ r. ⌜ (r .0 ≡ length (mark-meaning (self .entry) .text)) × (r .1 ≡ length (mark-meaning (self .entry) .marks)) ⌝ }
     {
         let MarkSink {
-            buf: _,
+            buf,
             len,
-            row: _,
+            row,
             count,
         } = self;
-        (len, count)
+        (len.min(buf.len()), count.min(row.len()))
     }
 
     // One mark more at the end of the text, where the row has a place for it.

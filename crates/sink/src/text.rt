@@ -1,6 +1,8 @@
 // A sink that holds text in lent bytes, and no marks.
 ghost use denote.Ref.{name};
 ghost use mathlib.Core.Path.{_≡_};
+ghost use lib.ListN.{length, take};
+ghost use Rattle.sink.specs.Meaning.{with-room};
 ghost use Rattle.sink.specs.TextSinks.{text-meaning, TextKept, text-laws};
 use crate::lent::append;
 use crate::lent::told;
@@ -18,7 +20,7 @@ pub struct TextSink<'a> {
 impl<'a> TextSink<'a> {
     // A sink with no text yet, and as much room as there are bytes.
     pub fn new(buf: &'a mut [u8]) -> TextSink<'a>
-        ensures empty { λ r. ⌜ r .len ≡ 0 ⌝ }
+        ensures empty { λ r. ⌜ text-meaning r ≡ with-room (length (now (buf .entry))) 0 ⌝ }
         ensures memory { λ r. ⌜ (now (r .buf) ≡ now (buf .entry)) × (name (r .buf) ≡ name (buf .entry)) ⌝ }
     {
         TextSink { buf, len: 0 }
@@ -27,10 +29,11 @@ impl<'a> TextSink<'a> {
     // Gives the memory back, and answers how many of its bytes are the text.
     pub fn end(self) -> usize
         ensures memory { λ r. ⌜ now (self .exit .0) ≡ now (self .entry .buf) ⌝ }
-        ensures value { λ r. ⌜ r ≡ self .entry .len ⌝ }
+        ensures text { λ r. ⌜ take r (now (self .entry .buf)) ≡ text-meaning (self .entry) .text ⌝ }
+        ensures value { λ r. ⌜ r ≡ length (text-meaning (self .entry) .text) ⌝ }
     {
-        let TextSink { buf: _, len } = self;
-        len
+        let TextSink { buf, len } = self;
+        len.min(buf.len())
     }
 }
 

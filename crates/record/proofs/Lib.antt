@@ -1,0 +1,4 @@
+pub mod Exits
+pub mod Lexing
+pub mod Numbers
+pub mod Tables

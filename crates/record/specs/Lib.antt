@@ -1,0 +1,11 @@
+pub mod Calls
+pub mod Givens
+pub mod Instructions
+pub mod Lines
+pub mod Opcodes
+pub mod Operands
+pub mod Parsing
+pub mod Parts
+pub mod Places
+pub mod Reads
+pub mod Tokens

@@ -1,0 +1,4 @@
+pub mod Operands
+pub mod Shapes
+pub mod Texts
+pub mod Visits
