@@ -1,7 +1,6 @@
 // The account of a record: each call with what came of it.
 use crate::message::push_bytes;
 use crate::message::push_fault;
-use crate::message::push_misread;
 use crate::message::push_number;
 use crate::transfer::push_sheet;
 use armv7::Fault;
@@ -9,6 +8,8 @@ use armv7::Instruction;
 use blocks::transfer::sheet;
 use display::visit_inst;
 use record::Call;
+use record::Misread;
+use record::message;
 use record::read_line;
 use sink::TextSink;
 use sink::text::TextDisplaySink;
@@ -80,8 +81,21 @@ impl Account {
         Ok(())
     }
 
+    fn misread(
+        &mut self,
+        heap: Global,
+        number: u64,
+        misread: &Misread<'_>,
+    ) -> Result<(), AllocError> {
+        let told = message(heap, number, misread)?;
+        push_bytes(&mut self.messages, told.as_slice())?;
+        self.messages.push_str("\n")?;
+        self.misread = self.misread.saturating_add(1);
+        Ok(())
+    }
+
     // One line of the record.
-    fn line(&mut self, number: u64, line: &[u8]) -> Result<(), AllocError> {
+    fn line(&mut self, heap: Global, number: u64, line: &[u8]) -> Result<(), AllocError> {
         match read_line(line) {
             Ok(None) => Ok(()),
             Ok(Some(Call::Gap)) => {
@@ -92,10 +106,7 @@ impl Account {
                 push_line_number(&mut self.text, number)?;
                 self.print(&instruction)
             }
-            Err(misread) => {
-                self.misread = self.misread.saturating_add(1);
-                push_misread(&mut self.messages, number, misread)
-            }
+            Err(misread) => self.misread(heap, number, &misread),
         }
     }
 
@@ -125,7 +136,7 @@ pub(crate) fn of(heap: Global, record: &str) -> Result<Account, AllocError> {
     let mut number: u64 = 0;
     for line in record.lines() {
         number = number.saturating_add(1);
-        account.line(number, line.as_bytes())?;
+        account.line(heap, number, line.as_bytes())?;
     }
     account.total()?;
     Ok(account)

@@ -1,7 +1,5 @@
-// What is said of a line that cannot be read, and of an instruction that is refused.
+// What is said of an instruction that is refused.
 use armv7::Fault;
-use record::Expected;
-use record::Misread;
 use std::alloc::AllocError;
 use std::fmt::Write;
 
@@ -29,59 +27,4 @@ pub(crate) fn push_fault(text: &mut String, fault: Fault) -> Result<(), AllocErr
         push_number(text, u64::from(fault.place()))?;
     }
     Ok(())
-}
-
-fn push_expected(text: &mut String, expected: Expected) -> Result<(), AllocError> {
-    match expected {
-        Expected::Call => text.push_str("`gap`, an instruction or a comment"),
-        Expected::Given(token) => {
-            let bytes = token.text();
-            if bytes.is_empty() {
-                return text.push_str("the end of the line");
-            }
-            text.push_str("`")?;
-            push_bytes(text, bytes)?;
-            text.push_str("`")
-        }
-        Expected::Condition => text.push_str("a condition"),
-        Expected::Opcode => text.push_str("an opcode"),
-        Expected::Operand => text.push_str("an operand"),
-        Expected::Bank => text.push_str("a register bank"),
-        Expected::Mask => text.push_str("a status mask"),
-        Expected::Flag => text.push_str("`true` or `false`"),
-        Expected::Number(most) => {
-            text.push_str("a number from 0 to ")?;
-            push_number(text, u64::from(most))
-        }
-        Expected::Distance => text.push_str("a distance of 32 bits"),
-        Expected::Register => text.push_str("a register number from 0 to 15"),
-        Expected::Control => text.push_str("a control register number from 0 to 15"),
-        Expected::ShiftWord => text.push_str("a shift word"),
-    }
-}
-
-// Where a line cannot be read, what was expected there, and what was found.
-pub(crate) fn push_misread(
-    text: &mut String,
-    line: u64,
-    misread: Misread,
-) -> Result<(), AllocError> {
-    text.push_str("line ")?;
-    push_number(text, line)?;
-    text.push_str(", column ")?;
-    push_number(text, misread.column as u64)?;
-    text.push_str(": ")?;
-    push_expected(text, misread.expected)?;
-    text.push_str(" was expected, found ")?;
-    if misread.found.is_empty() {
-        text.push_str("the end of the line")?;
-    } else {
-        push_bytes(text, misread.found)?;
-    }
-    if let Some(fault) = misread.refusal {
-        text.push_str(" (refusal ")?;
-        push_fault(text, fault)?;
-        text.push_str(")")?;
-    }
-    text.push_str("\n")
 }

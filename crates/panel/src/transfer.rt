@@ -47,6 +47,11 @@ fn push_registers(text: &mut String, mask: u16) -> Result<(), AllocError> {
     Ok(())
 }
 
+// A transfer of the user bank that loads the program counter returns from an exception instead.
+fn returns(sheet: &Sheet) -> bool {
+    sheet.load && sheet.mask >= 0x8000
+}
+
 // Load or store, the registers, the base, the direction and the write-back.
 pub(crate) fn push_sheet(text: &mut String, sheet: &Sheet) -> Result<(), AllocError> {
     text.push_str(if sheet.load { "loads" } else { "stores" })?;
@@ -61,7 +66,11 @@ pub(crate) fn push_sheet(text: &mut String, sheet: &Sheet) -> Result<(), AllocEr
         ", base stays"
     })?;
     if sheet.user {
-        text.push_str(", registers of user mode")?;
+        text.push_str(if returns(sheet) {
+            ", status restored"
+        } else {
+            ", registers of user mode"
+        })?;
     }
     Ok(())
 }

@@ -10,14 +10,14 @@ use Rattle.record.specs.declared.call.Start.{Start}
 use Rattle.record.specs.declared.call.Start.the-variants.{Nothing, Gap as GapStart, Print as PrintStart}
 use Rattle.record.specs.declared.given.Given.the-variants.{End}
 use Rattle.record.specs.Instructions.{instruction, settled-instruction}
-use Rattle.record.specs.Parsing.{Parser, Table, then, given, chosen, via}
+use Rattle.record.specs.Parsing.{Parser, Table, then, given, before, chosen, via}
 
 unfoldable pub starts : Table Start
 starts = ([], Nothing) ∷ (codes "#", Nothing) ∷ (codes "gap", GapStart) ∷ (codes "Instruction", PrintStart) ∷ []
 
 -- an instruction that ends the line
 abbrev pub whole : Parser Instruction
-whole ts = then (instruction ts) (λ i. then (given End (i .1)) (λ e. Some (i .0, e .1)))
+whole = before instruction End
 
 abbrev pub call-with : Start → Parser (Option Call)
 call-with Nothing ts = Some (None, ts)

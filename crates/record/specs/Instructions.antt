@@ -8,10 +8,9 @@ use Rattle.armv7.specs.declared.instruction.Instruction.{Instruction}
 use Rattle.armv7.specs.declared.operand.Operand.{Operand}
 use Rattle.opcode.specs.declared.Opcode.{Opcode}
 use Rattle.record.specs.declared.given.Given.the-variants.{Condition, Opcode as Opcode-field, Operands, S, Wide, ThumbW, Thumb, OpenBrace, CloseBrace, OpenBracket, CloseBracket, Comma, Colon}
-use Rattle.std.specs.declared.option.Option.the-variants.{Some, None}
 use Rattle.record.specs.Opcodes.{opcode}
 use Rattle.record.specs.Operands.{operand, settled-operand}
-use Rattle.record.specs.Parsing.{Parser, Table, then, chosen, pair, flag, given, after}
+use Rattle.record.specs.Parsing.{Parser, Table, chosen, pair, flag, after, before, both, via}
 
 abbrev pub conditions : Table ConditionCode
 conditions =
@@ -20,34 +19,35 @@ conditions =
 abbrev pub operands : Parser ((Operand × Operand) × (Operand × Operand))
 operands = pair (pair operand operand) (pair operand operand)
 
--- the last four fields, and the brace that ends them
+-- the last four fields, with the bracket before them and the brace after them
 abbrev pub widths : Parser ((Bool × Bool) × (Bool × Bool))
-widths ts =
-    then (after (CloseBracket ∷ Comma ∷ S ∷ Colon ∷ []) flag ts) (λ s.
-    then (after (Comma ∷ Wide ∷ Colon ∷ []) flag (s .1)) (λ wide.
-    then (after (Comma ∷ ThumbW ∷ Colon ∷ []) flag (wide .1)) (λ w.
-    then (after (Comma ∷ Thumb ∷ Colon ∷ []) flag (w .1)) (λ thumb.
-    then (given CloseBrace (thumb .1)) (λ c.
-    Some (((s .0, wide .0), (w .0, thumb .0)), c .1))))))
+widths =
+    both
+    (both (after (CloseBracket ∷ Comma ∷ S ∷ Colon ∷ []) flag) (after (Comma ∷ Wide ∷ Colon ∷ []) flag))
+    (both (after (Comma ∷ ThumbW ∷ Colon ∷ []) flag) (before (after (Comma ∷ Thumb ∷ Colon ∷ []) flag) CloseBrace))
+
+abbrev pub Fields : Type 0
+Fields = (ConditionCode × Opcode) × (((Operand × Operand) × (Operand × Operand)) × ((Bool × Bool) × (Bool × Bool)))
+
+abbrev pub fields : Parser Fields
+fields =
+    both
+    (both (after (OpenBrace ∷ Condition ∷ Colon ∷ []) (chosen conditions)) (after (Comma ∷ Opcode-field ∷ Colon ∷ []) opcode))
+    (both (after (Comma ∷ Operands ∷ Colon ∷ OpenBracket ∷ []) operands) widths)
+
+abbrev pub from-fields : Fields → Instruction
+from-fields x = record {
+  condition = x .0 .0;
+  opcode = x .0 .1;
+  operands = x .1 .0 .0 .0 ∷ x .1 .0 .0 .1 ∷ x .1 .0 .1 .0 ∷ x .1 .0 .1 .1 ∷ [];
+  s = x .1 .1 .0 .0;
+  wide = x .1 .1 .0 .1;
+  «thumb_w» = x .1 .1 .1 .0;
+  thumb = x .1 .1 .1 .1;
+}
 
 abbrev pub instruction : Parser Instruction
-instruction ts =
-    then (after (OpenBrace ∷ Condition ∷ Colon ∷ []) (chosen conditions) ts) (λ c.
-    then (after (Comma ∷ Opcode-field ∷ Colon ∷ []) opcode (c .1)) (λ o.
-    then (after (Comma ∷ Operands ∷ Colon ∷ OpenBracket ∷ []) operands (o .1)) (λ x.
-    then (widths (x .1)) (λ w.
-    Some (
-      record {
-        condition = c .0;
-        opcode = o .0;
-        operands = x .0 .0 .0 ∷ x .0 .0 .1 ∷ x .0 .1 .0 ∷ x .0 .1 .1 ∷ [];
-        s = w .0 .0 .0;
-        wide = w .0 .0 .1;
-        «thumb_w» = w .0 .1 .0;
-        thumb = w .0 .1 .1;
-      },
-      w .1,
-    )))))
+instruction = via from-fields fields
 
 -- an instruction as far as it is read
 abbrev pub settled-instruction : Instruction → Instruction

@@ -1,7 +1,9 @@
 pub mod Calls
 pub mod Givens
 pub mod Instructions
-pub mod Lines
+pub mod Law
+pub mod Messages
+pub mod Notation
 pub mod Opcodes
 pub mod Operands
 pub mod Parsing
@@ -9,3 +11,4 @@ pub mod Parts
 pub mod Places
 pub mod Reads
 pub mod Tokens
+pub mod Written

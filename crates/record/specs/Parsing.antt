@@ -62,9 +62,13 @@ number most ts = then (numeral most (first ts)) (λ n. Some (n, others ts))
 abbrev pub after : {X : Type 0} → List Given → Parser X → Parser X
 after front p ts = then (givens front ts) (λ o. p (o .1))
 
--- something between given tokens
-abbrev pub between : {X : Type 0} → List Given → Parser X → Given → Parser X
-between front p back ts = then (givens front ts) (λ o. then (p (o .1)) (λ x. then (given back (x .1)) (λ c. Some (x .0, c .1))))
+-- something before a given token
+abbrev pub before : {X : Type 0} → Parser X → Given → Parser X
+before p back ts = then (p ts) (λ x. then (given back (x .1)) (λ c. Some (x .0, c .1)))
+
+-- one and then another
+abbrev pub both : {X Y : Type 0} → Parser X → Parser Y → Parser (X × Y)
+both p q ts = then (p ts) (λ x. then (q (x .1)) (λ y. Some ((x .0, y .0), y .1)))
 
 abbrev pub bracketed : {X : Type 0} → Parser X → Parser X
 bracketed p ts = then (given OpenParen ts) (λ o. then (p (o .1)) (λ x. then (given CloseParen (x .1)) (λ c. Some (x .0, c .1))))
@@ -86,7 +90,7 @@ meant f p ts = then (p ts) (λ x. then (f (x .0)) (λ y. Some (y, x .1)))
 
 -- NAME { FIELD: n }
 abbrev pub braced : Given → Given → ℕ → Parser ℕ
-braced name field most = between (name ∷ OpenBrace ∷ field ∷ Colon ∷ []) (number most) CloseBrace
+braced name field most = after (name ∷ OpenBrace ∷ field ∷ Colon ∷ []) (before (number most) CloseBrace)
 
 -- where there is one, what is made of it, and else another
 abbrev pub either : {X Y : Type 0} → Option X → (X → Y) → Y → Y

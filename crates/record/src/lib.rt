@@ -5,6 +5,7 @@ mod given;
 mod instruction;
 mod leaf;
 mod lex;
+mod messages;
 mod misread;
 mod opcode;
 mod operand;
@@ -13,6 +14,7 @@ mod read;
 
 pub use call::Call;
 pub use given::Given;
+pub use messages::message;
 pub use misread::Expected;
 pub use misread::Misread;
 pub use read::read_line;

@@ -13,8 +13,10 @@ pub enum Expected {
     Bank,
     Mask,
     Flag,
-    // A number up to this one.
-    Number(u32),
+    // Numbers of 8, 16 and 32 bits.
+    Code,
+    Halfword,
+    Word,
     Distance,
     Register,
     Control,

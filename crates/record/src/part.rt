@@ -100,7 +100,7 @@ pub impl Part for u8 as CodePart {
     ghost seen = { λ x. x };
 
     fn read(cursor: &mut Cursor<'_>) -> Result<u8, Slip> {
-        let n = cursor.number(255, Expected::Number(255))?;
+        let n = cursor.number(255, Expected::Code)?;
         Ok(n.value as u8)
     }
 }
@@ -111,7 +111,7 @@ pub impl Part for u16 as HalfwordPart {
     ghost seen = { λ x. x };
 
     fn read(cursor: &mut Cursor<'_>) -> Result<u16, Slip> {
-        let n = cursor.number(65535, Expected::Number(65535))?;
+        let n = cursor.number(65535, Expected::Halfword)?;
         Ok(n.value as u16)
     }
 }
@@ -122,7 +122,7 @@ pub impl Part for u32 as WordPart {
     ghost seen = { λ x. x };
 
     fn read(cursor: &mut Cursor<'_>) -> Result<u32, Slip> {
-        let n = cursor.number(4294967295, Expected::Number(4294967295))?;
+        let n = cursor.number(4294967295, Expected::Word)?;
         Ok(n.value)
     }
 }
