@@ -1,4 +1,6 @@
 // The parts of an ARMv7 instruction, with the names that they are printed under and the refusals that guard them.
+#![tactic(auto)]
+
 pub mod bank;
 pub mod call;
 pub mod condition;

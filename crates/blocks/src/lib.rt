@@ -1,4 +1,6 @@
 // Laws of all lines, and the fields of a block transfer.
+#![tactic(auto)]
+
 ghost use Rattle.blocks.specs.Bounds.{BoundedLines};
 ghost use Rattle.blocks.specs.Grammar.{OneSheet, OneWord};
 ghost use Rattle.blocks.specs.Pages.{PagesCut};

@@ -1,4 +1,6 @@
 // A buffer for the text of one instruction.
+#![tactic(auto)]
+
 ghost use Rattle.std.specs.Prelude.{◌≡◌, []};
 ghost use Rattle.sink.specs.Outcome.{outcome};
 ghost use Rattle.lines.specs.Admission.{refused};

@@ -1,4 +1,6 @@
 // A sink on lent cells: each cell is a byte with the ink that it is shown in.
+#![tactic(auto)]
+
 ghost use Rattle.cells.specs.Worked.{WorkedInks};
 
 pub mod cell;

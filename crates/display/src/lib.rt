@@ -1,4 +1,6 @@
 // The printer: how the line of an instruction is written to a sink.
+#![tactic(auto)]
+
 ghost use Rattle.display.specs.Worked.{WorkedLines};
 
 mod coprocessor;

@@ -1,4 +1,6 @@
 // The printer for programs in C: functions on numbers and on lent bytes.
+#![tactic(auto)]
+
 ghost use Rattle.std.specs.Prelude.{◌≡◌, length, take, Some};
 ghost use Rattle.sink.specs.Items.{bytes, marks_from};
 ghost use Rattle.sink.specs.Outcome.{outcome};

@@ -1,4 +1,6 @@
 // The ways to print an instruction, by its opcode.
+#![tactic(auto)]
+
 ghost use Rattle.std.specs.Prelude.{◌≡◌, [], ◌∷◌};
 ghost use Rattle.opcode.specs.Forms.{form, coprocessor as of_coprocessor};
 ghost use Rattle.kind.specs.Kinds.{form_of, suffixes_of};

@@ -1,4 +1,6 @@
 // Lines: which instructions have one, what it is, and which are printed under another name.
+#![tactic(auto)]
+
 mod admission;
 mod alias;
 

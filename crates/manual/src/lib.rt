@@ -1,4 +1,6 @@
 // The manual's spelling of block transfers and of the pops and pushes of one register, straight to a sink.
+#![tactic(auto)]
+
 ghost use Rattle.std.specs.Prelude.{Bool};
 ghost use Rattle.armv7.specs.declared.condition.ConditionCode.{ConditionCode};
 ghost use Rattle.manual.specs.Plain.{PlainLines};

@@ -1,4 +1,5 @@
 // Tests of the manual line and of the cell sink: inks, refusals and a sink that is too short.
+#![tactic(auto)]
 
 #[cfg(test)]
 mod tests {

@@ -1,4 +1,6 @@
 // The visitor that measures operands.
+#![tactic(auto)]
+
 pub mod measuring;
 mod size;
 

@@ -1,4 +1,6 @@
 // What is said of a line that cannot be read.
+#![tactic(auto)]
+
 mod given;
 mod messages;
 mod misread;

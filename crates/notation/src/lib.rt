@@ -1,4 +1,6 @@
 // The notation of a fault record: the tokens of a line, and what can stand in an argument's place.
+#![tactic(auto)]
+
 mod cursor;
 mod leaf;
 mod lex;

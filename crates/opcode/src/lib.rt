@@ -1,4 +1,6 @@
 // The opcodes of ARMv7 instructions, and the name that each is printed under.
+#![tactic(auto)]
+
 ghost use Rattle.std.specs.Prelude.{◌≡◌};
 ghost use Rattle.opcode.specs.Names.{name_of};
 

@@ -1,4 +1,6 @@
 // The notation of opcodes.
+#![tactic(auto)]
+
 mod form;
 mod read;
 mod words;

@@ -1,4 +1,6 @@
 // The notation of operands.
+#![tactic(auto)]
+
 mod operand;
 
 pub use operand::read_operands;

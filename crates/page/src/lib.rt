@@ -1,4 +1,6 @@
 // Pages: lines one below the other on any sink that tells its room.
+#![tactic(auto)]
+
 pub mod closed;
 pub mod entry;
 pub mod page;

@@ -1,4 +1,6 @@
 // The panel: reads a fault record, prints it on a page, and gives an account of what was printed, refused and misread.
+#![tactic(auto)]
+
 mod account;
 mod calls;
 mod colour;

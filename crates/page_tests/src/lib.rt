@@ -1,4 +1,5 @@
 // Tests of pages: on both sinks, full ones, ones with few marks, and with refused calls in between.
+#![tactic(auto)]
 
 #[cfg(test)]
 mod tests {

@@ -1,4 +1,6 @@
 // The panel: reads a fault record and prints its instructions, with an account of what was printed, refused and misread.
+#![tactic(auto)]
+
 mod account;
 mod message;
 mod options;

@@ -1,4 +1,6 @@
 // Reads a fault record: a text whose lines are instructions to be printed, in the notation of Rust's `{:?}`, and gaps.
+#![tactic(auto)]
+
 mod call;
 mod cursor;
 mod given;

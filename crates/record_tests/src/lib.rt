@@ -1,4 +1,5 @@
 // Tests of the record reader: lines that are read, and lines that are damaged.
+#![tactic(auto)]
 
 #[cfg(test)]
 mod tests {

@@ -1,4 +1,6 @@
 // Runs: whole pages, made, called and closed, and the law that every run keeps.
+#![tactic(auto)]
+
 ghost use Rattle.std.specs.Prelude.{map};
 ghost use Rattle.runs.specs.Runs.{called, Run};
 ghost use Rattle.page.specs.Spellings.{own};

@@ -1,4 +1,6 @@
 // Sinks: what a printer writes bytes and span edges to, by what they hold, and those on lent memory.
+#![tactic(auto)]
+
 mod lent;
 pub mod marking;
 pub mod sink;

@@ -1,4 +1,6 @@
 // Writers of the texts that operands are made of: register names, numbers and register lists.
+#![tactic(auto)]
+
 mod list;
 mod number;
 mod piece;

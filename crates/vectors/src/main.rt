@@ -1,4 +1,6 @@
 // Holds the printer against stored answers of the original: each is equal, or differs as is listed.
+#![tactic(auto)]
+
 mod cases;
 mod difference;
 mod edits;

@@ -1,4 +1,6 @@
 // The visitor that writes operands to a sink.
+#![tactic(auto)]
+
 mod address;
 mod creg;
 pub mod displaying;
