@@ -5,15 +5,15 @@ use Rattle.armv7.proofs.shift.RegShift.into_shift.Goals as goal
 
 pub returns-then-word-eq0 : goal.returns-then-word-eq0
 returns-then-word-eq0 c =
-    let reg = c.from-low-bits-shiftee.ensures in
-    let kind = c.from-low-bits-stype.ensures in
+    let reg = c.from_low_bits-shiftee.ensures in
+    let kind = c.from_low_bits-stype.ensures in
     let kept = fields_kept c.args.self.now in
     record { fields = grind (arith, nat_tests) }
 
 pub returns-else-word-eq0 : goal.returns-else-word-eq0
 returns-else-word-eq0 c =
-    let reg = c.from-low-bits-shiftee.ensures in
-    let kind = c.from-low-bits-stype.ensures in
-    let by = c.from-low-bits-shifter.ensures in
+    let reg = c.from_low_bits-shiftee.ensures in
+    let kind = c.from_low_bits-stype.ensures in
+    let by = c.from_low_bits-shifter.ensures in
     let kept = fields_kept c.args.self.now in
     record { fields = grind (arith, nat_tests) }
