@@ -1,7 +1,7 @@
 -- Lent memory: what a sink on it holds, and what of it stays. Assumes nothing.
 use Rattle.std.specs.Prelude.{◌≡◌, ℕ, ◌+◌, ◌-◌, ◌^◌, ◌<◌, ◌≤◌, min, List, ◌++◌, length, take, drop, refl}
 use Rattle.std.proofs.Common.{⊎_elim, sym, ap, ◌∙◌, arith, length-take, length-drop, drop-drop}
-use Rattle.std.proofs.str.Laws.{order}
+use Rattle.std.proofs.lemmas.Bool.{cases_lt}
 use Rattle.std.proofs.lemmas.List.{drop_all}
 
 -- lent elements, of which there are always fewer than 2 to the 64
@@ -31,7 +31,7 @@ pub filled_twice : {A : Type 0} {xs ys zs : List A} {n k j : ℕ} → Filled xs 
 filled_twice {xs} {ys} {zs} {n} {k} {j} f g = record {
   grows = omega arith;
   size = g.size ∙ f.size;
-  past = g.past ∙ ⊎_elim short long (order j k);
+  past = g.past ∙ ⊎_elim short long (cases_lt j k);
 }
   where
     -- nothing lies past the end

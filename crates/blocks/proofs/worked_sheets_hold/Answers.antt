@@ -12,7 +12,7 @@ two = listed (R4 ∷ R15 ∷ []) (lit≤ tt, (lit≤ tt, tt))
 
 pub returns : goal.returns
 returns c = record {
-  worked-sheets = record {
+  worked_sheets = record {
     pop_two = stack_line (record { add = refl; pre = refl; base = refl; wback = refl; user = refl; list = _; listed = two; written = refl });
     same_as_ldm = transfer_line (record { list = _; listed = two; written = refl });
     push_none = stack_line (record { add = refl; pre = refl; base = refl; wback = refl; user = refl; list = _; listed = listed [] tt; written = refl });

@@ -6,7 +6,7 @@ use Rattle.display.proofs.worked_lines_hold.Goals as goal
 pub returns : goal.returns
 unfolding line refused
 returns c = record {
-  worked-lines = record {
+  worked_lines = record {
     pop_list = (refl, refl);
     not_a_pop = (refl, refl);
     push_list = (refl, refl);

@@ -9,7 +9,7 @@ loop-i-init c = refl
 
 pub loop-i-preserved : goal.loop-i-preserved
 loop-i-preserved c =
-    ap₂ (λ l v. set l c.loop-i.i v) c.loop-i.invariant c.mark-number.ensures
+    ap₂ (λ l v. set l c.loop-i.i v) c.loop-i.invariant c.mark_number.ensures
     ∙ number_more c.loop-i.i c.args.row.now c.args.marks.now _ (omega arith) (omega arith)
 
 pub returns : goal.returns

@@ -30,7 +30,7 @@ returns g c =
     let end = state laws own c.args.sink from in
     let held : Run own (meaning c.args.sink) (map called c.args.entries.now) c.loop-entry.entries (meaning page.sink) page.count = law laws own c.args.sink lawful_own end (map called c.args.entries.now) c.loop-entry.invariant.1 in
     record {
-      law = subst (λ x. Run own (meaning c.args.sink) (map called c.args.entries.now) c.loop-entry.entries (meaning x) c.close.result.count) (sym c.close.ensures.same-sink)
+      law = subst (λ x. Run own (meaning c.args.sink) (map called c.args.entries.now) c.loop-entry.entries (meaning x) c.close.result.count) (sym c.close.ensures.same_sink)
           (subst (λ n. Run own (meaning c.args.sink) (map called c.args.entries.now) c.loop-entry.entries (meaning page.sink) n) (sym c.close.ensures.same_count) held);
-      rest = subst (kept c.args.sink) (sym c.close.ensures.same-sink) end.rest;
+      rest = subst (kept c.args.sink) (sym c.close.ensures.same_sink) end.rest;
     }

@@ -11,7 +11,7 @@ use Rattle.call_notation.proofs.read.read_line.Goals as goal
 pub returns-in-Ok : goal.returns-in-Ok
 returns-in-Ok c =
     let ts = tokens c.args.line.now in
-    let rest = ahead c.read-call.new.cursor in
+    let rest = ahead c.read_call.new.cursor in
     let read : call ts ≡ Ok (c.in-Ok.call, rest) = c.in-Ok.ensures.value in
     record {
       sound = call_sound ts c.in-Ok.call rest (tokens_full c.args.line.now) read;
@@ -24,9 +24,9 @@ returns-in-Ok c =
 pub returns-in-Err : goal.returns-in-Err
 returns-in-Err c =
     let ts = tokens c.args.line.now in
-    let stop : Stop = record { left = ahead c.read-call.new.cursor; expected = c.in-Err.slip.expected; refusal = c.in-Err.slip.refusal } in
+    let stop : Stop = record { left = ahead c.read_call.new.cursor; expected = c.in-Err.slip.expected; refusal = c.in-Err.slip.refusal } in
     let read : call ts ≡ Err stop = c.in-Err.ensures.value in
-    let same : c.read-call.new.cursor.line.now ≡ c.args.line.now = ap (λ x. x.now) c.in-Err.ensures.line in
+    let same : c.read_call.new.cursor.line.now ≡ c.args.line.now = ap (λ x. x.now) c.in-Err.ensures.line in
     let told = c.token-token.ensures in
     record {
       sound = tt;

@@ -9,4 +9,4 @@ pub returns : goal.returns
 returns g c =
     let i = c.args.instruction.now in
     renamed (ap line_of (transfer_line c.args.transfer i c.in-RegWBack.base c.in-RegWBack.wback c.in-RegList.mask (ap shape c.in-RegWBack.is) (ap shape c.in-RegList.is)))
-    c.write-transfer.ensures
+    c.write_transfer.ensures

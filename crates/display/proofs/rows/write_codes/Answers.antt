@@ -4,20 +4,20 @@ use Rattle.sink.proofs.Chain.{both, stop}
 use Rattle.visitor.specs.Texts.{decimal}
 use Rattle.display.proofs.rows.write_codes.Goals as goal
 
-pub returns-in-err-write-text : goal.returns-in-err-write-text
-returns-in-err-write-text g c =
+pub returns-in_err-write_text : goal.returns-in_err-write_text
+returns-in_err-write_text g c =
     let laws = g.T.DisplaySink.laws in
-    stop laws (text_items (codes " p")) _ c.from-residual.result c.in-err-write-text.field-0.0 c.in-err-write-text.ensures.printed c.from-residual.ensures.1
+    stop laws (text_items (codes " p")) _ c.from_residual.result c.in_err-write_text.field-0.0 c.in_err-write_text.ensures.printed c.from_residual.ensures.1
 
-pub returns-in-err-write-decimal : goal.returns-in-err-write-decimal
-returns-in-err-write-decimal g c =
+pub returns-in_err-write_decimal : goal.returns-in_err-write_decimal
+returns-in_err-write_decimal g c =
     let laws = g.T.DisplaySink.laws in
-    let r = c.from-residual-in-err-write-decimal in
-    both laws (text_items (codes " p")) _ c.in-ok-write-text.ensures.printed
-    (stop laws (text_items (decimal c.args.coprocessor)) _ r.result c.in-err-write-decimal.field-0.0 c.in-err-write-decimal.ensures.printed r.ensures.1)
+    let r = c.from_residual-in_err-write_decimal in
+    both laws (text_items (codes " p")) _ c.in_ok-write_text.ensures.printed
+    (stop laws (text_items (decimal c.args.coprocessor)) _ r.result c.in_err-write_decimal.field-0.0 c.in_err-write_decimal.ensures.printed r.ensures.1)
 
 pub returns : goal.returns
 returns g c =
     let laws = g.T.DisplaySink.laws in
-    both laws (text_items (codes " p")) _ c.in-ok-write-text.ensures.printed
-    (both laws (text_items (decimal c.args.coprocessor)) _ c.in-ok-write-decimal.ensures.printed c.write-code.ensures)
+    both laws (text_items (codes " p")) _ c.in_ok-write_text.ensures.printed
+    (both laws (text_items (decimal c.args.coprocessor)) _ c.in_ok-write_decimal.ensures.printed c.write_code.ensures)

@@ -19,15 +19,15 @@ pieces a bs os cs =
     ap (λ l. text_items (codes " p") ++ l) (append_assoc (text_items (decimal a)) (followed second) (followed os ++ followed cs))
     ∙ ap (λ l. text_items (codes " p") ++ (text_items (decimal a) ++ l)) (ap (λ l. followed second ++ l) (sym (followed_append os cs)) ∙ sym (followed_append second (os ++ cs)))
 
-pub returns-in-err-write-followed : goal.returns-in-err-write-followed
+pub returns-in_err-write_followed : goal.returns-in_err-write_followed
 unfolding head
-returns-in-err-write-followed g c =
+returns-in_err-write_followed g c =
     let laws = g.T.DisplaySink.laws in
-    let r = c.from-residual-in-err-write-followed in
+    let r = c.from_residual-in_err-write_followed in
     let bs = optional c.args.second in
     let os = map operand_items (reached c.args.operands.now) in
     renamed (pieces c.args.coprocessor bs os (map code_row (optional c.args.third)))
-    (both laws (head c.args.coprocessor bs) _ c.in-ok-write-codes.ensures (stop laws (followed os) _ r.result c.in-err-write-followed.field-0.0 c.in-err-write-followed.ensures r.ensures.1))
+    (both laws (head c.args.coprocessor bs) _ c.in_ok-write_codes.ensures (stop laws (followed os) _ r.result c.in_err-write_followed.field-0.0 c.in_err-write_followed.ensures r.ensures.1))
 
 pub returns : goal.returns
 unfolding head
@@ -36,4 +36,4 @@ returns g c =
     let bs = optional c.args.second in
     let os = map operand_items (reached c.args.operands.now) in
     renamed (pieces c.args.coprocessor bs os (map code_row (optional c.args.third)))
-    (both laws (head c.args.coprocessor bs) _ c.in-ok-write-codes.ensures (both laws (followed os) _ c.in-ok-write-followed.ensures c.write-code.ensures))
+    (both laws (head c.args.coprocessor bs) _ c.in_ok-write_codes.ensures (both laws (followed os) _ c.in_ok-write_followed.ensures c.write_code.ensures))

@@ -17,23 +17,23 @@ unfolding twice
 pieces r =
     ap (λ l. text_items (codes " {") ++ (edge Start Register ∷ l)) (append_assoc (reg_items r) (edge End Register ∷ []) (text_items (codes "}"))) ∙ ap (λ l. text_items (codes " ") ++ l) (sym (append-nil (one_row r)))
 
-pub returns-in-err-write-text : goal.returns-in-err-write-text
+pub returns-in_err-write_text : goal.returns-in_err-write_text
 unfolding twice
-returns-in-err-write-text g c =
+returns-in_err-write_text g c =
     let laws = g.T.DisplaySink.laws in
-    renamed (pieces c.args.reg) (stop laws (text_items (codes " {")) _ c.from-residual.result c.in-err-write-text.field-0.0 c.in-err-write-text.ensures.printed c.from-residual.ensures.1)
+    renamed (pieces c.args.reg) (stop laws (text_items (codes " {")) _ c.from_residual.result c.in_err-write_text.field-0.0 c.in_err-write_text.ensures.printed c.from_residual.ensures.1)
 
-pub returns-in-err-write-twice-spanned : goal.returns-in-err-write-twice-spanned
+pub returns-in_err-write_twice_spanned : goal.returns-in_err-write_twice_spanned
 unfolding twice
-returns-in-err-write-twice-spanned g c =
+returns-in_err-write_twice_spanned g c =
     let laws = g.T.DisplaySink.laws in
-    let r = c.from-residual-in-err-write-twice-spanned in
-    renamed (pieces c.args.reg) (both laws (text_items (codes " {")) _ c.in-ok-write-text.ensures.printed
-    (stop laws (twice c.args.reg) (text_items (codes "}")) r.result c.in-err-write-twice-spanned.field-0.0 c.in-err-write-twice-spanned.ensures r.ensures.1))
+    let r = c.from_residual-in_err-write_twice_spanned in
+    renamed (pieces c.args.reg) (both laws (text_items (codes " {")) _ c.in_ok-write_text.ensures.printed
+    (stop laws (twice c.args.reg) (text_items (codes "}")) r.result c.in_err-write_twice_spanned.field-0.0 c.in_err-write_twice_spanned.ensures r.ensures.1))
 
 pub returns : goal.returns
 unfolding twice
 returns g c =
     let laws = g.T.DisplaySink.laws in
-    renamed (pieces c.args.reg) (both laws (text_items (codes " {")) _ c.in-ok-write-text.ensures.printed
-    (both laws (twice c.args.reg) _ c.in-ok-write-twice-spanned.ensures c.write-text-2.ensures.printed))
+    renamed (pieces c.args.reg) (both laws (text_items (codes " {")) _ c.in_ok-write_text.ensures.printed
+    (both laws (twice c.args.reg) _ c.in_ok-write_twice_spanned.ensures c.write_text-2.ensures.printed))

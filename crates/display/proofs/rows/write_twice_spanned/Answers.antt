@@ -6,17 +6,17 @@ use Rattle.sink.proofs.Chain.{both, stop, edged}
 use Rattle.visitor.specs.Texts.{reg_items}
 use Rattle.display.proofs.rows.write_twice_spanned.Goals as goal
 
-pub returns-in-err-write-reg : goal.returns-in-err-write-reg
-returns-in-err-write-reg g c =
+pub returns-in_err-write_reg : goal.returns-in_err-write_reg
+returns-in_err-write_reg g c =
     let laws = g.T.DisplaySink.laws in
-    let start = c.span-start-register.ensures in
+    let start = c.span_start_register.ensures in
     both laws (edge Start Register ∷ []) _ (edged laws Start Register start.after start.rest)
-    (stop laws (reg_items c.args.reg) (edge End Register ∷ []) c.from-residual.result c.in-err-write-reg.field-0.0 c.in-err-write-reg.ensures.printed c.from-residual.ensures.1)
+    (stop laws (reg_items c.args.reg) (edge End Register ∷ []) c.from_residual.result c.in_err-write_reg.field-0.0 c.in_err-write_reg.ensures.printed c.from_residual.ensures.1)
 
 pub returns : goal.returns
 returns g c =
     let laws = g.T.DisplaySink.laws in
-    let start = c.span-start-register.ensures in
-    let end = c.span-end-register.ensures in
+    let start = c.span_start_register.ensures in
+    let end = c.span_end_register.ensures in
     both laws (edge Start Register ∷ []) _ (edged laws Start Register start.after start.rest)
-    (both laws (reg_items c.args.reg) _ c.in-ok-write-reg.ensures.printed (edged laws End Register end.after end.rest))
+    (both laws (reg_items c.args.reg) _ c.in_ok-write_reg.ensures.printed (edged laws End Register end.after end.rest))

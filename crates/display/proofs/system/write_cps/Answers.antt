@@ -8,16 +8,16 @@ use Rattle.lines.specs.Lines.{cps_letters}
 use Rattle.display.proofs.Modes.{mode_items, cps_pieces}
 use Rattle.display.proofs.system.write_cps.Goals as goal
 
-pub returns-in-err-write-cps-flags : goal.returns-in-err-write-cps-flags
-returns-in-err-write-cps-flags g c =
+pub returns-in_err-write_cps_flags : goal.returns-in_err-write_cps_flags
+returns-in_err-write_cps_flags g c =
     let none = eqb c.args.flags 0 in
     let letters = cps_letters c.args.flags in
     renamed (cps_pieces none letters (mode_of (shape c.args.second)))
-    (stop g.T.DisplaySink.laws (cond none [] (text_items (codes " ") ++ text_items letters)) _ c.from-residual.result c.in-err-write-cps-flags.field-0.0 c.in-err-write-cps-flags.ensures c.from-residual.ensures.1)
+    (stop g.T.DisplaySink.laws (cond none [] (text_items (codes " ") ++ text_items letters)) _ c.from_residual.result c.in_err-write_cps_flags.field-0.0 c.in_err-write_cps_flags.ensures c.from_residual.ensures.1)
 
 pub returns-in-Some : goal.returns-in-Some
 returns-in-Some g c =
     let none = eqb c.args.flags 0 in
     let letters = cps_letters c.args.flags in
     renamed (cps_pieces none letters (mode_of (shape c.args.second)))
-    (both g.T.DisplaySink.laws (cond none [] (text_items (codes " ") ++ text_items letters)) _ c.in-ok-write-cps-flags.ensures (renamed (ap (mode_items none) c.in-Some.ensures) c.write-cps-mode.ensures))
+    (both g.T.DisplaySink.laws (cond none [] (text_items (codes " ") ++ text_items letters)) _ c.in_ok-write_cps_flags.ensures (renamed (ap (mode_items none) c.in-Some.ensures) c.write_cps_mode.ensures))

@@ -12,4 +12,4 @@ returns-then-flags-eq0 g c =
 pub returns : goal.returns
 returns g c =
     renamed (ap (λ b. cond b [] (text_items (codes " ") ++ text_items (cps_letters c.args.flags))) (sym (ne_eqb c.args.flags 0 c.if-flags-eq0.false)))
-    (both g.T.DisplaySink.laws (text_items (codes " ")) _ c.in-ok-write-text.ensures.printed c.write-cps-letters.ensures)
+    (both g.T.DisplaySink.laws (text_items (codes " ")) _ c.in_ok-write_text.ensures.printed c.write_cps_letters.ensures)

@@ -3,9 +3,9 @@ use Rattle.sink.specs.Items.{text_items}
 use Rattle.visitor.proofs.Pieces.{renamed, texts, text_stop}
 use Rattle.display.proofs.system.write_cps_mode.Goals as goal
 
-pub returns-in-err-write-text : goal.returns-in-err-write-text
-returns-in-err-write-text g c =
-    text_stop g.T.DisplaySink.laws _ _ c.from-residual.result c.in-err-write-text.field-0.0 (renamed (ap text_items c.before-mode.ensures) c.in-err-write-text.ensures.printed) c.from-residual.ensures.1
+pub returns-in_err-write_text : goal.returns-in_err-write_text
+returns-in_err-write_text g c =
+    text_stop g.T.DisplaySink.laws _ _ c.from_residual.result c.in_err-write_text.field-0.0 (renamed (ap text_items c.before_mode.ensures) c.in_err-write_text.ensures.printed) c.from_residual.ensures.1
 
 pub returns : goal.returns
-returns g c = texts g.T.DisplaySink.laws _ _ (renamed (ap text_items c.before-mode.ensures) c.in-ok-write-text.ensures.printed) c.write-prefixed-u16.ensures.printed
+returns g c = texts g.T.DisplaySink.laws _ _ (renamed (ap text_items c.before_mode.ensures) c.in_ok-write_text.ensures.printed) c.write_prefixed_u16.ensures.printed

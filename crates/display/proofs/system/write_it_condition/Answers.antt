@@ -9,5 +9,5 @@ use Rattle.display.proofs.system.write_it_condition.Goals as goal
 pub returns : goal.returns
 returns g c =
     let name = text_items (condition_name (condition_at c.args.number)) in
-    both g.T.DisplaySink.laws (text_items (codes " ")) _ c.in-ok-write-text.ensures.printed
-    (renamed (ap text_items c.name.ensures.value ∙ sym (append-nil name)) c.write-text-2.ensures.printed)
+    both g.T.DisplaySink.laws (text_items (codes " ")) _ c.in_ok-write_text.ensures.printed
+    (renamed (ap text_items c.name.ensures.value ∙ sym (append-nil name)) c.write_text-2.ensures.printed)

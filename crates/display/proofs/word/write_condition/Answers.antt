@@ -6,38 +6,38 @@ use Rattle.visitor.proofs.Pieces.{renamed, texts, text_stop}
 use Rattle.display.proofs.Words.{letters_suffix}
 use Rattle.display.proofs.word.write_condition.Goals as goal
 
-pub returns-then-is-always : goal.returns-then-is-always
-returns-then-is-always g c =
-    renamed (ap (λ b. text_items (cond b [] (condition_name c.args.condition))) c.if-is-always.ensures) (nothing g.T.DisplaySink.laws c.args.out.now)
+pub returns-then-is_always : goal.returns-then-is_always
+returns-then-is_always g c =
+    renamed (ap (λ b. text_items (cond b [] (condition_name c.args.condition))) c.if-is_always.ensures) (nothing g.T.DisplaySink.laws c.args.out.now)
 
-pub slice-bounds-write-text-count : goal.slice-bounds-write-text-count
-slice-bounds-write-text-count g c = omega (arith, c.name-name.ensures.size)
+pub slice-bounds-write_text-count : goal.slice-bounds-write_text-count
+slice-bounds-write_text-count g c = omega (arith, c.name-name.ensures.size)
 
-pub slice-bounds-write-text-start : goal.slice-bounds-write-text-start
-slice-bounds-write-text-start g c = omega (arith, c.name-name.ensures.size)
+pub slice-bounds-write_text-start : goal.slice-bounds-write_text-start
+slice-bounds-write_text-start g c = omega (arith, c.name-name.ensures.size)
 
-pub slice-bounds-write-text-end : goal.slice-bounds-write-text-end
-slice-bounds-write-text-end g c = omega (arith, c.name-name.ensures.size)
+pub slice-bounds-write_text-end : goal.slice-bounds-write_text-end
+slice-bounds-write_text-end g c = omega (arith, c.name-name.ensures.size)
 
-pub slice-bounds-write-text-count-2 : goal.slice-bounds-write-text-count-2
-slice-bounds-write-text-count-2 g c = omega (arith, c.name-name.ensures.size)
+pub slice-bounds-write_text-count-2 : goal.slice-bounds-write_text-count-2
+slice-bounds-write_text-count-2 g c = omega (arith, c.name-name.ensures.size)
 
-pub slice-bounds-write-text-start-2 : goal.slice-bounds-write-text-start-2
-slice-bounds-write-text-start-2 g c = omega (arith, c.name-name.ensures.size)
+pub slice-bounds-write_text-start-2 : goal.slice-bounds-write_text-start-2
+slice-bounds-write_text-start-2 g c = omega (arith, c.name-name.ensures.size)
 
-pub slice-bounds-write-text-end-2 : goal.slice-bounds-write-text-end-2
-slice-bounds-write-text-end-2 g c = omega (arith, c.name-name.ensures.size)
+pub slice-bounds-write_text-end-2 : goal.slice-bounds-write_text-end-2
+slice-bounds-write_text-end-2 g c = omega (arith, c.name-name.ensures.size)
 
-pub returns-in-err-write-text : goal.returns-in-err-write-text
-returns-in-err-write-text g c =
+pub returns-in_err-write_text : goal.returns-in_err-write_text
+returns-in_err-write_text g c =
     let n = c.name-name.result.now in
     let told = c.name-name.ensures in
-    renamed (ap text_items (letters_suffix _ n told.value told.size c.if-is-always.ensures))
-    (text_stop g.T.DisplaySink.laws (take 1 n) (take 1 (drop 1 n)) c.from-residual.result c.in-err-write-text.field-0.0 c.in-err-write-text.ensures.printed c.from-residual.ensures.1)
+    renamed (ap text_items (letters_suffix _ n told.value told.size c.if-is_always.ensures))
+    (text_stop g.T.DisplaySink.laws (take 1 n) (take 1 (drop 1 n)) c.from_residual.result c.in_err-write_text.field-0.0 c.in_err-write_text.ensures.printed c.from_residual.ensures.1)
 
 pub returns : goal.returns
 returns g c =
     let n = c.name-name.result.now in
     let told = c.name-name.ensures in
-    renamed (ap text_items (letters_suffix _ n told.value told.size c.if-is-always.ensures))
-    (texts g.T.DisplaySink.laws (take 1 n) (take 1 (drop 1 n)) c.in-ok-write-text.ensures.printed c.write-text-2.ensures.printed)
+    renamed (ap text_items (letters_suffix _ n told.value told.size c.if-is_always.ensures))
+    (texts g.T.DisplaySink.laws (take 1 n) (take 1 (drop 1 n)) c.in_ok-write_text.ensures.printed c.write_text-2.ensures.printed)

@@ -6,7 +6,7 @@ use Rattle.visitor.proofs.Pieces.{renamed}
 use Rattle.display.proofs.word.write_flagged.Goals as goal
 
 pub returns-then-flag : goal.returns-then-flag
-returns-then-flag g c = renamed (ap (λ b. text_items (flagged b c.args.text.now)) (sym c.if-flag.true)) c.write-text.ensures.printed
+returns-then-flag g c = renamed (ap (λ b. text_items (flagged b c.args.text.now)) (sym c.if-flag.true)) c.write_text.ensures.printed
 
 pub returns-else-flag : goal.returns-else-flag
 returns-else-flag g c = renamed (ap (λ b. text_items (flagged b c.args.text.now)) (sym c.if-flag.false)) (nothing g.T.DisplaySink.laws c.args.out.now)

@@ -6,5 +6,5 @@ use Rattle.display.proofs.word.write_it_letters.Goals as goal
 
 pub returns : goal.returns
 returns g c =
-    let count = sub-zero c.it-count-count.result ∙ c.it-count-count.ensures.value in
-    renamed (ap text_items (λ i. take (count i) (c.it-letter-at.ensures i ∷ c.it-letter-at-2.ensures i ∷ c.it-letter-at-3.ensures i ∷ []))) c.write-text.ensures.printed
+    let count = sub-zero c.it_count-count.result ∙ c.it_count-count.ensures.value in
+    renamed (ap text_items (λ i. take (count i) (c.it_letter_at.ensures i ∷ c.it_letter_at-2.ensures i ∷ c.it_letter_at-3.ensures i ∷ []))) c.write_text.ensures.printed

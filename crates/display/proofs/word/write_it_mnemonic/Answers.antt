@@ -2,19 +2,19 @@ use Rattle.visitor.proofs.Pieces.{texts, text_stop}
 use Rattle.lines.specs.Lines.{suffix_of}
 use Rattle.display.proofs.word.write_it_mnemonic.Goals as goal
 
-pub returns-in-err-write-text : goal.returns-in-err-write-text
-returns-in-err-write-text g c =
-    text_stop g.T.DisplaySink.laws c.args.name.now _ c.from-residual.result c.in-err-write-text.field-0.0 c.in-err-write-text.ensures.printed c.from-residual.ensures.1
+pub returns-in_err-write_text : goal.returns-in_err-write_text
+returns-in_err-write_text g c =
+    text_stop g.T.DisplaySink.laws c.args.name.now _ c.from_residual.result c.in_err-write_text.field-0.0 c.in_err-write_text.ensures.printed c.from_residual.ensures.1
 
-pub returns-in-err-write-suffix : goal.returns-in-err-write-suffix
-returns-in-err-write-suffix g c =
+pub returns-in_err-write_suffix : goal.returns-in_err-write_suffix
+returns-in_err-write_suffix g c =
     let laws = g.T.DisplaySink.laws in
-    let r = c.from-residual-in-err-write-suffix in
-    texts laws c.args.name.now _ c.in-ok-write-text.ensures.printed
-    (text_stop laws (suffix_of c.args.s c.args.condition c.args.w) _ r.result c.in-err-write-suffix.field-0.0 c.in-err-write-suffix.ensures r.ensures.1)
+    let r = c.from_residual-in_err-write_suffix in
+    texts laws c.args.name.now _ c.in_ok-write_text.ensures.printed
+    (text_stop laws (suffix_of c.args.s c.args.condition c.args.w) _ r.result c.in_err-write_suffix.field-0.0 c.in_err-write_suffix.ensures r.ensures.1)
 
 pub returns : goal.returns
 returns g c =
     let laws = g.T.DisplaySink.laws in
-    texts laws c.args.name.now _ c.in-ok-write-text.ensures.printed
-    (texts laws (suffix_of c.args.s c.args.condition c.args.w) _ c.in-ok-write-suffix.ensures c.write-it-letters.ensures)
+    texts laws c.args.name.now _ c.in_ok-write_text.ensures.printed
+    (texts laws (suffix_of c.args.s c.args.condition c.args.w) _ c.in_ok-write_suffix.ensures c.write_it_letters.ensures)

@@ -19,30 +19,30 @@ long t suffix = record {
   rows = (reg_items t.base ++ text_items (bang t.wback)) ∷ (list_items t.mask ++ text_items (flagged t.user (codes "^"))) ∷ [];
 }
 
-pub returns-in-err-write-word : goal.returns-in-err-write-word
-returns-in-err-write-word g c =
+pub returns-in_err-write_word : goal.returns-in_err-write_word
+returns-in_err-write_word g c =
     let t = c.args.block in
     let suffix = manual_suffix c.args.condition c.args.w in
     renamed (ap (λ b. line_of (cond b (short t suffix) (long t suffix))) c.if-stacks.ensures)
-    (stop g.T.DisplaySink.laws (word_items (stack_name t.load ++ suffix)) _ c.from-residual.result c.in-err-write-word.field-0.0 (renamed (ap (λ n. word_items (n ++ suffix)) c.name-on-stack.ensures) c.in-err-write-word.ensures.printed) c.from-residual.ensures.1)
+    (stop g.T.DisplaySink.laws (word_items (stack_name t.load ++ suffix)) _ c.from_residual.result c.in_err-write_word.field-0.0 (renamed (ap (λ n. word_items (n ++ suffix)) c.name_on_stack.ensures) c.in_err-write_word.ensures.printed) c.from_residual.ensures.1)
 
-pub returns-in-ok-write-word : goal.returns-in-ok-write-word
-returns-in-ok-write-word g c =
+pub returns-in_ok-write_word : goal.returns-in_ok-write_word
+returns-in_ok-write_word g c =
     let t = c.args.block in
     let suffix = manual_suffix c.args.condition c.args.w in
     renamed (ap (λ b. line_of (cond b (short t suffix) (long t suffix))) c.if-stacks.ensures)
-    (both g.T.DisplaySink.laws (word_items (stack_name t.load ++ suffix)) _ (renamed (ap (λ n. word_items (n ++ suffix)) c.name-on-stack.ensures) c.in-ok-write-word.ensures.printed) c.write-stack-list.ensures.printed)
+    (both g.T.DisplaySink.laws (word_items (stack_name t.load ++ suffix)) _ (renamed (ap (λ n. word_items (n ++ suffix)) c.name_on_stack.ensures) c.in_ok-write_word.ensures.printed) c.write_stack_list.ensures.printed)
 
-pub returns-in-err-write-word-2 : goal.returns-in-err-write-word-2
-returns-in-err-write-word-2 g c =
+pub returns-in_err-write_word-2 : goal.returns-in_err-write_word-2
+returns-in_err-write_word-2 g c =
     let t = c.args.block in
     let suffix = manual_suffix c.args.condition c.args.w in
     renamed (ap (λ b. line_of (cond b (short t suffix) (long t suffix))) c.if-stacks.ensures)
-    (stop g.T.DisplaySink.laws (word_items (block_name t.load t.add t.pre ++ suffix)) _ c.from-residual-in-err-write-word-2.result c.in-err-write-word-2.field-0.0 (renamed (ap (λ n. word_items (n ++ suffix)) c.name-of-block-name.ensures) c.in-err-write-word-2.ensures.printed) c.from-residual-in-err-write-word-2.ensures.1)
+    (stop g.T.DisplaySink.laws (word_items (block_name t.load t.add t.pre ++ suffix)) _ c.from_residual-in_err-write_word-2.result c.in_err-write_word-2.field-0.0 (renamed (ap (λ n. word_items (n ++ suffix)) c.name_of_block-name.ensures) c.in_err-write_word-2.ensures.printed) c.from_residual-in_err-write_word-2.ensures.1)
 
-pub returns-in-ok-write-word-2 : goal.returns-in-ok-write-word-2
-returns-in-ok-write-word-2 g c =
+pub returns-in_ok-write_word-2 : goal.returns-in_ok-write_word-2
+returns-in_ok-write_word-2 g c =
     let t = c.args.block in
     let suffix = manual_suffix c.args.condition c.args.w in
     renamed (ap (λ b. line_of (cond b (short t suffix) (long t suffix))) c.if-stacks.ensures)
-    (both g.T.DisplaySink.laws (word_items (block_name t.load t.add t.pre ++ suffix)) _ (renamed (ap (λ n. word_items (n ++ suffix)) c.name-of-block-name.ensures) c.in-ok-write-word-2.ensures.printed) c.write-block.ensures.printed)
+    (both g.T.DisplaySink.laws (word_items (block_name t.load t.add t.pre ++ suffix)) _ (renamed (ap (λ n. word_items (n ++ suffix)) c.name_of_block-name.ensures) c.in_ok-write_word-2.ensures.printed) c.write_block.ensures.printed)

@@ -11,19 +11,19 @@ use Rattle.manual.proofs.line.write_one.Goals as goal
 pieces : (r : Reg) → text_items (codes " {") ++ (reg_items r ++ text_items (codes "}")) ≡ behind_word (one_row r ∷ [])
 pieces r = ap (λ l. text_items (codes " ") ++ l) (sym (append-nil (one_row r)))
 
-pub returns-in-err-write-text : goal.returns-in-err-write-text
-returns-in-err-write-text g c =
-    renamed (pieces c.args.reg) (stop g.T.DisplaySink.laws (text_items (codes " {")) _ c.from-residual.result c.in-err-write-text.field-0.0 c.in-err-write-text.ensures.printed c.from-residual.ensures.1)
+pub returns-in_err-write_text : goal.returns-in_err-write_text
+returns-in_err-write_text g c =
+    renamed (pieces c.args.reg) (stop g.T.DisplaySink.laws (text_items (codes " {")) _ c.from_residual.result c.in_err-write_text.field-0.0 c.in_err-write_text.ensures.printed c.from_residual.ensures.1)
 
-pub returns-in-err-write-reg : goal.returns-in-err-write-reg
-returns-in-err-write-reg g c =
+pub returns-in_err-write_reg : goal.returns-in_err-write_reg
+returns-in_err-write_reg g c =
     let laws = g.T.DisplaySink.laws in
-    let r = c.from-residual-in-err-write-reg in
-    renamed (pieces c.args.reg) (both laws (text_items (codes " {")) _ c.in-ok-write-text.ensures.printed
-    (stop laws (reg_items c.args.reg) _ r.result c.in-err-write-reg.field-0.0 c.in-err-write-reg.ensures.printed r.ensures.1))
+    let r = c.from_residual-in_err-write_reg in
+    renamed (pieces c.args.reg) (both laws (text_items (codes " {")) _ c.in_ok-write_text.ensures.printed
+    (stop laws (reg_items c.args.reg) _ r.result c.in_err-write_reg.field-0.0 c.in_err-write_reg.ensures.printed r.ensures.1))
 
 pub returns : goal.returns
 returns g c =
     let laws = g.T.DisplaySink.laws in
-    renamed (pieces c.args.reg) (both laws (text_items (codes " {")) _ c.in-ok-write-text.ensures.printed
-    (both laws (reg_items c.args.reg) _ c.in-ok-write-reg.ensures.printed c.write-text-2.ensures.printed))
+    renamed (pieces c.args.reg) (both laws (text_items (codes " {")) _ c.in_ok-write_text.ensures.printed
+    (both laws (reg_items c.args.reg) _ c.in_ok-write_reg.ensures.printed c.write_text-2.ensures.printed))

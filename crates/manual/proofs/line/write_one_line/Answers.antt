@@ -4,10 +4,10 @@ use Rattle.lines.specs.Lines.{word_items}
 use Rattle.manual.specs.Lines.{manual_suffix}
 use Rattle.manual.proofs.line.write_one_line.Goals as goal
 
-pub returns-in-err-write-word : goal.returns-in-err-write-word
-returns-in-err-write-word g c =
-    stop g.T.DisplaySink.laws (word_items (c.args.name.now ++ manual_suffix c.args.condition c.args.w)) _ c.from-residual.result c.in-err-write-word.field-0.0 c.in-err-write-word.ensures.printed c.from-residual.ensures.1
+pub returns-in_err-write_word : goal.returns-in_err-write_word
+returns-in_err-write_word g c =
+    stop g.T.DisplaySink.laws (word_items (c.args.name.now ++ manual_suffix c.args.condition c.args.w)) _ c.from_residual.result c.in_err-write_word.field-0.0 c.in_err-write_word.ensures.printed c.from_residual.ensures.1
 
 pub returns : goal.returns
 returns g c =
-    both g.T.DisplaySink.laws (word_items (c.args.name.now ++ manual_suffix c.args.condition c.args.w)) _ c.in-ok-write-word.ensures.printed c.write-one.ensures
+    both g.T.DisplaySink.laws (word_items (c.args.name.now ++ manual_suffix c.args.condition c.args.w)) _ c.in_ok-write_word.ensures.printed c.write_one.ensures

@@ -5,7 +5,7 @@ use Rattle.manual.specs.Lines.{transfer_parts}
 use Rattle.manual.proofs.line.write_transfer.Goals as goal
 
 pub returns-in-Pop : goal.returns-in-Pop
-returns-in-Pop g c = renamed (ap (λ t. line_of (transfer_parts t c.args.condition c.args.w)) (sym c.in-Pop.is)) c.write-one-line.ensures
+returns-in-Pop g c = renamed (ap (λ t. line_of (transfer_parts t c.args.condition c.args.w)) (sym c.in-Pop.is)) c.write_one_line.ensures
 
 pub returns-in-Push : goal.returns-in-Push
-returns-in-Push g c = renamed (ap (λ t. line_of (transfer_parts t c.args.condition c.args.w)) (sym c.in-Push.is)) c.write-one-line-in-Push.ensures
+returns-in-Push g c = renamed (ap (λ t. line_of (transfer_parts t c.args.condition c.args.w)) (sym c.in-Push.is)) c.write_one_line-in-Push.ensures

@@ -28,24 +28,24 @@ sized t i r w mask stacked e l f h =
     let long : Parts = record { word = name_of i.opcode ++ suffix i; rows = (reg_items r ++ text_items (bang w)) ∷ (list_items mask ++ text_items (flagged t.user (codes "^"))) ∷ [] } in
     h ∙ ap (λ b. size (line_of (cond b short long))) f ∙ ap (λ p. size (line_of p)) (transfer_line t i r w mask e l)
 
-pub returns-then-is-stacked : goal.returns-then-is-stacked
-returns-then-is-stacked c =
+pub returns-then-is_stacked : goal.returns-then-is_stacked
+returns-then-is_stacked c =
     let a = c.args in
     let i = a.instruction.now in
     let b = c.in-RegWBack in
     let mask = c.in-RegList.mask in
-    sized a.transfer i b.base b.wback mask true (ap shape b.is) (ap shape c.in-RegList.is) c.if-is-stacked.ensures
-    (line_size (stack_name a.transfer.load ++ suffix i) (list_items mask ∷ []) c.with-rows.ensures (c.word-size.ensures.value ∙ ap (λ n. length (n ++ suffix i)) c.alias.ensures)
-    (ap (λ n. 2 + n) c.operand-size-list.ensures.value ∙ sym (one_row_size (list_items mask))))
+    sized a.transfer i b.base b.wback mask true (ap shape b.is) (ap shape c.in-RegList.is) c.if-is_stacked.ensures
+    (line_size (stack_name a.transfer.load ++ suffix i) (list_items mask ∷ []) c.with_rows.ensures (c.word_size.ensures.value ∙ ap (λ n. length (n ++ suffix i)) c.alias.ensures)
+    (ap (λ n. 2 + n) c.operand_size-list.ensures.value ∙ sym (one_row_size (list_items mask))))
 
-pub returns-else-is-stacked : goal.returns-else-is-stacked
-returns-else-is-stacked c =
+pub returns-else-is_stacked : goal.returns-else-is_stacked
+returns-else-is_stacked c =
     let a = c.args in
     let i = a.instruction.now in
     let b = c.in-RegWBack in
     let mask = c.in-RegList.mask in
     let first = reg_items b.base ++ text_items (bang b.wback) in
     let sign = flagged a.transfer.user (codes "^") in
-    sized a.transfer i b.base b.wback mask false (ap shape b.is) (ap shape c.in-RegList.is) c.if-is-stacked.ensures
-    (line_size (name_of i.opcode ++ suffix i) (first ∷ (list_items mask ++ text_items sign) ∷ []) c.with-rows-else-is-stacked.ensures c.own-word.ensures.value
-    (block_rows_size first (list_items mask) sign c.operand-size-base-row.ensures.value c.operand-size-list.ensures.value (c.flagged-size.ensures ∙ one-sign a.transfer.user)))
+    sized a.transfer i b.base b.wback mask false (ap shape b.is) (ap shape c.in-RegList.is) c.if-is_stacked.ensures
+    (line_size (name_of i.opcode ++ suffix i) (first ∷ (list_items mask ++ text_items sign) ∷ []) c.with_rows-else-is_stacked.ensures c.own_word.ensures.value
+    (block_rows_size first (list_items mask) sign c.operand_size-base_row.ensures.value c.operand_size-list.ensures.value (c.flagged_size.ensures ∙ one-sign a.transfer.user)))

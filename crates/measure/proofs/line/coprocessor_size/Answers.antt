@@ -11,4 +11,4 @@ returns c =
     let i = c.args.instruction.now in
     let codes = c.args.codes in
     line_size (name_of i.opcode ++ suffixed (suffixes_of codes.suffixes) i) (code_rows (codes.coprocessor ∷ optional codes.second) ++ (map operand_items (reached (four i)) ++ map code_row (optional codes.third)))
-    c.with-rows.ensures c.suffixed-word.ensures.value c.coprocessor-rows.ensures.value
+    c.with_rows.ensures c.suffixed_word.ensures.value c.coprocessor_rows.ensures.value

@@ -18,7 +18,7 @@ returns c =
     let number = c.in-Imm32.number in
     let mask = c.in-Imm32-second.mask in
     let name = condition_name (condition_at number) in
-    line_size (name_of i.opcode ++ (suffix i ++ it_letters number mask)) (text_items name ∷ []) c.with-rows.ensures
-    (lettered_size (name_of i.opcode) (suffix i) (it_letters number mask) c.own-word.ensures.value c.letters-size.ensures.value)
+    line_size (name_of i.opcode ++ (suffix i ++ it_letters number mask)) (text_items name ∷ []) c.with_rows.ensures
+    (lettered_size (name_of i.opcode) (suffix i) (it_letters number mask) c.own_word.ensures.value c.letters_size.ensures.value)
     (sym (text_row_size name ∙ ap (λ n. 2 + n) (two_letters (condition_at number))))
     ∙ ap (λ p. size (line_of p)) (it_line i number mask (ap shape c.in-Imm32.is) (ap shape c.in-Imm32-second.is))

@@ -7,9 +7,9 @@ use Rattle.measure.proofs.line.load_size.Goals as goal
 pub returns-in-Some : goal.returns-in-Some
 returns-in-Some c =
     let i = c.args.instruction.now in
-    c.one-size.ensures ∙ ap (λ p. size (line_of p)) (ap (λ o. pick o (λ t. one_parts (codes "pop") t i) (own_parts i)) c.in-Some.ensures.register ∙ sym (load_picks i))
+    c.one_size.ensures ∙ ap (λ p. size (line_of p)) (ap (λ o. pick o (λ t. one_parts (codes "pop") t i) (own_parts i)) c.in-Some.ensures.register ∙ sym (load_picks i))
 
 pub returns-in-None : goal.returns-in-None
 returns-in-None c =
     let i = c.args.instruction.now in
-    c.own-size.ensures ∙ ap (λ p. size (line_of p)) (ap (λ o. pick o (λ t. one_parts (codes "pop") t i) (own_parts i)) c.in-None.ensures.register ∙ sym (load_picks i))
+    c.own_size.ensures ∙ ap (λ p. size (line_of p)) (ap (λ o. pick o (λ t. one_parts (codes "pop") t i) (own_parts i)) c.in-None.ensures.register ∙ sym (load_picks i))

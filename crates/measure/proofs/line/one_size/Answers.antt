@@ -6,4 +6,4 @@ use Rattle.measure.proofs.line.one_size.Goals as goal
 pub returns : goal.returns
 returns c =
     let i = c.args.instruction.now in
-    line_size (c.args.name.now ++ suffix i) (one_row c.args.reg ∷ []) c.with-rows.ensures c.word-size.ensures.value (stacked_size c.args.reg c.operand-size.ensures.value)
+    line_size (c.args.name.now ++ suffix i) (one_row c.args.reg ∷ []) c.with_rows.ensures c.word_size.ensures.value (stacked_size c.args.reg c.operand_size.ensures.value)

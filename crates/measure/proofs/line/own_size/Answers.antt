@@ -8,4 +8,4 @@ use Rattle.measure.proofs.line.own_size.Goals as goal
 pub returns : goal.returns
 returns c =
     let i = c.args.instruction.now in
-    line_size (name_of i.opcode ++ suffix i) (map operand_items (reached (four i))) c.with-rows.ensures c.own-word.ensures.value c.operand-rows.ensures.value
+    line_size (name_of i.opcode ++ suffix i) (map operand_items (reached (four i))) c.with_rows.ensures c.own_word.ensures.value c.operand_rows.ensures.value

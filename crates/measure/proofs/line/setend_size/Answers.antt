@@ -26,4 +26,4 @@ at-shape other i h e f = absurd (let z : ◌≡◌ {A = ℕ} 0 1 = cc in omega a
 pub returns : goal.returns
 returns c =
     let i = c.args.instruction.now in
-    at-shape (shape_at 0 i) i c.requires c.with-rows.ensures c.own-word.ensures.value
+    at-shape (shape_at 0 i) i c.requires c.with_rows.ensures c.own_word.ensures.value

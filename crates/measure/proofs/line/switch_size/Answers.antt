@@ -10,5 +10,5 @@ returns c =
     let i = c.args.instruction.now in
     let word = name_of i.opcode ++ suffix i in
     let mode = shape_at 1 i in
-    line_size word (cps_rows c.in-Imm12.flags mode) c.with-rows.ensures c.own-word.ensures.value c.cps-size.ensures.value
+    line_size word (cps_rows c.in-Imm12.flags mode) c.with_rows.ensures c.own_word.ensures.value c.cps_size.ensures.value
     ∙ ap (λ s. size (line_of (if_imm12 s (λ flags. record { word = word; rows = cps_rows flags mode }) (own_parts i)))) (sym (ap shape c.in-Imm12.is))

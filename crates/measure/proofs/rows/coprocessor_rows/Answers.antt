@@ -12,6 +12,6 @@ returns c =
     let a = c.args in
     record {
       value = coprocessor_size a.coprocessor (optional a.second) (map operand_items (reached a.operands.now)) (optional a.third)
-          c.decimal-size.ensures.value c.code-row-size.ensures.value c.operand-rows.ensures.value c.code-row-size-2.ensures.value;
+          c.decimal_size.ensures.value c.code_row_size.ensures.value c.operand_rows.ensures.value c.code_row_size-2.ensures.value;
       bound = omega arith;
     }

@@ -10,6 +10,6 @@ pub returns : goal.returns
 returns c =
     let mode = if_imm12 (shape c.args.second) (λ n. text_items (codes "#" ++ prefixed 4 n) ∷ []) [] in
     record {
-      value = ap₂ ◌+◌ c.flags-size.ensures.value c.mode-size.ensures.value ∙ sym (rows_size (flag_row c.args.flags) mode);
+      value = ap₂ ◌+◌ c.flags_size.ensures.value c.mode_size.ensures.value ∙ sym (rows_size (flag_row c.args.flags) mode);
       bound = omega arith;
     }

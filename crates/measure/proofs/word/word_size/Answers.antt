@@ -6,6 +6,6 @@ pub returns : goal.returns
 returns c =
     let name = c.args.name.now in
     record {
-      value = ap (λ n. length name + n) c.suffix-size.ensures.value ∙ sym (length-append name (suffix c.args.instruction.now));
+      value = ap (λ n. length name + n) c.suffix_size.ensures.value ∙ sym (length-append name (suffix c.args.instruction.now));
       bound = omega arith;
     }

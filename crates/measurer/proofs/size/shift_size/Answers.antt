@@ -10,6 +10,6 @@ returns-in-RegImm c =
     let by = c.in-RegImm.by in
     let amount = amount_text by.stype by.imm in
     record {
-      value = ap₂ ◌+◌ c.reg-size.ensures.value (c.amount-size.ensures.value ∙ sym (size_text amount)) ∙ sym (length_bytes (reg_items by.shiftee) (text_items amount)) ∙ ap (λ s. size (shift_items s)) c.in-RegImm.ensures.fields;
+      value = ap₂ ◌+◌ c.reg_size.ensures.value (c.amount_size.ensures.value ∙ sym (size_text amount)) ∙ sym (length_bytes (reg_items by.shiftee) (text_items amount)) ∙ ap (λ s. size (shift_items s)) c.in-RegImm.ensures.fields;
       bound = omega arith;
     }

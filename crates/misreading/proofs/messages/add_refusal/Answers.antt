@@ -10,14 +10,14 @@ returns-in-None c = sym (ap (λ r. vec_items c.args.text.now ++ refusal_text r) 
 pub returns : goal.returns
 returns c =
     let s = vec_items c.args.text.now in
-    let p = c.as-bytes.result.now in
+    let p = c.as_bytes.result.now in
     let w = c.word.result.now in
     let n = (refusal c.in-Some.fault).number in
-    let a : vec_items c.extend-from-slice.new.self ≡ s ++ p = c.in-ok-extend-from-slice.ensures.items in
-    let b : vec_items c.extend-from-slice-2.new.self ≡ vec_items c.extend-from-slice.new.self ++ w = c.in-ok-extend-from-slice-2.ensures.items in
-    let d : vec_items c.extend-from-slice-3.new.self ≡ vec_items c.extend-from-slice-2.new.self ++ codes ")" = c.in-ok-extend-from-slice-3.ensures.items in
+    let a : vec_items c.extend_from_slice.new.self ≡ s ++ p = c.in_ok-extend_from_slice.ensures.items in
+    let b : vec_items c.extend_from_slice-2.new.self ≡ vec_items c.extend_from_slice.new.self ++ w = c.in_ok-extend_from_slice-2.ensures.items in
+    let d : vec_items c.extend_from_slice-3.new.self ≡ vec_items c.extend_from_slice-2.new.self ++ codes ")" = c.in_ok-extend_from_slice-3.ensures.items in
     let opening : p ≡ codes " (refusal " ++ (decimal n ++ codes ": ") =
-    c.as-bytes.ensures.value ∙ c.in-ok-opening.ensures.ok ∙ ap (λ k. codes " (refusal " ++ (decimal k ++ codes ": ")) c.number-number.ensures.value in
+    c.as_bytes.ensures.value ∙ c.in_ok-opening.ensures.ok ∙ ap (λ k. codes " (refusal " ++ (decimal k ++ codes ": ")) c.number-number.ensures.value in
     three_more s p w (codes ")") _ _ _ a b d
     ∙ ap (λ l. s ++ (l ++ (w ++ codes ")"))) opening
     ∙ ap (λ l. s ++ ((codes " (refusal " ++ (decimal n ++ codes ": ")) ++ (l ++ codes ")"))) c.word.ensures.value

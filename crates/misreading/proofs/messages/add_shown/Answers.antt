@@ -8,7 +8,7 @@ loop-b-preserved c =
     let t = vec_items c.loop-b.text in
     let found = c.args.found.now in
     let i = c.loop-b.b-index in
-    ap (λ l. l ++ shown (drop (i + 1) found)) c.in-ok-add-byte.ensures
+    ap (λ l. l ++ shown (drop (i + 1) found)) c.in_ok-add_byte.ensures
     ∙ append_assoc t (shown_byte (get_or found i 0)) (shown (drop (i + 1) found))
     ∙ sym (at_drop_more (λ l. t ++ shown l) found i 0 c.loop-b-test.true)
     ∙ c.loop-b.invariant

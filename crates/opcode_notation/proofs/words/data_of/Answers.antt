@@ -3,4 +3,4 @@ use Rattle.opcode_notation.proofs.words.data_of.Goals as goal
 
 pub returns : goal.returns
 unfolding data_words
-returns c = c.row-of.ensures.value
+returns c = c.row_of.ensures.value

@@ -15,11 +15,11 @@ returns g c =
     let out = c.args.out.now in
     let meaning = g.S.DisplaySink.meaning in
     let kept = g.S.DisplaySink.kept in
-    let admitted = c.in-ok-size.ensures.refusal in
+    let admitted = c.in_ok-size.ensures.refusal in
     let fits =
     ap (λ o. row_refused o (room (meaning out)) (length (bytes (line i)))) (sym admitted)
-    ∙ ap (row_refused None (room (meaning out))) (sym c.in-ok-size.ensures.size)
-    ∙ sym c.in-ok-fit.ensures in
-    let printed = subst (λ o. PrintedUnless meaning kept o (line i) out None c.visit-inst.new.out) (sym admitted) c.in-ok-visit-inst.ensures.printed-or-refused in
-    subst (λ o. PrintedUnless meaning kept o (row (line i)) out (outcome c.write-text.result) c.write-text.new.out) (sym fits)
-    (both g.S.DisplaySink.laws (line i) (byte 10 ∷ []) printed c.write-text.ensures.printed)
+    ∙ ap (row_refused None (room (meaning out))) (sym c.in_ok-size.ensures.size)
+    ∙ sym c.in_ok-fit.ensures in
+    let printed = subst (λ o. PrintedUnless meaning kept o (line i) out None c.visit_inst.new.out) (sym admitted) c.in_ok-visit_inst.ensures.printed_or_refused in
+    subst (λ o. PrintedUnless meaning kept o (row (line i)) out (outcome c.write_text.result) c.write_text.new.out) (sym fits)
+    (both g.S.DisplaySink.laws (line i) (byte 10 ∷ []) printed c.write_text.ensures.printed)

@@ -10,17 +10,17 @@ joins l k e f r = simp append_assoc
 pub returns : goal.returns
 returns c =
     let m = c.args.misread.now in
-    let p = c.as-bytes.result.now in
+    let p = c.as_bytes.result.now in
     let front = codes "line " ++ (decimal c.args.line ++ (codes ", column " ++ (decimal m.column ++ codes ": "))) in
-    let opening : p ≡ front = c.as-bytes.ensures.value ∙ c.in-ok-place.ensures.ok in
-    let start : vec_items c.in-ok-text.text ≡ front = c.in-ok-text.ensures.items ∙ opening in
-    let a : vec_items c.extend-from-slice.new.self ≡ vec_items c.in-ok-text.text ++ c.text.result.now = c.in-ok-extend-from-slice.ensures.items in
-    let b : vec_items c.extend-from-slice-2.new.self ≡ vec_items c.extend-from-slice.new.self ++ codes " was expected, found " = c.in-ok-extend-from-slice-2.ensures.items in
-    let d : vec_items c.extend-from-slice-3.new.self ≡ vec_items c.extend-from-slice-2.new.self ++ c.shown.result.now = c.in-ok-extend-from-slice-3.ensures.items in
-    let said : vec_items c.extend-from-slice-3.new.self ≡ front ++ (expected_text m.expected ++ (codes " was expected, found " ++ or_at_end m.found.now)) =
-    three_more (vec_items c.in-ok-text.text) c.text.result.now (codes " was expected, found ") c.shown.result.now _ _ _ a b d
+    let opening : p ≡ front = c.as_bytes.ensures.value ∙ c.in_ok-place.ensures.ok in
+    let start : vec_items c.in_ok-text.text ≡ front = c.in_ok-text.ensures.items ∙ opening in
+    let a : vec_items c.extend_from_slice.new.self ≡ vec_items c.in_ok-text.text ++ c.text.result.now = c.in_ok-extend_from_slice.ensures.items in
+    let b : vec_items c.extend_from_slice-2.new.self ≡ vec_items c.extend_from_slice.new.self ++ codes " was expected, found " = c.in_ok-extend_from_slice-2.ensures.items in
+    let d : vec_items c.extend_from_slice-3.new.self ≡ vec_items c.extend_from_slice-2.new.self ++ c.shown.result.now = c.in_ok-extend_from_slice-3.ensures.items in
+    let said : vec_items c.extend_from_slice-3.new.self ≡ front ++ (expected_text m.expected ++ (codes " was expected, found " ++ or_at_end m.found.now)) =
+    three_more (vec_items c.in_ok-text.text) c.text.result.now (codes " was expected, found ") c.shown.result.now _ _ _ a b d
     ∙ ap (λ l. l ++ (c.text.result.now ++ (codes " was expected, found " ++ c.shown.result.now))) start
     ∙ ap (λ l. front ++ (l ++ (codes " was expected, found " ++ c.shown.result.now))) c.text.ensures
     ∙ ap (λ l. front ++ (expected_text m.expected ++ (codes " was expected, found " ++ l))) c.shown.ensures in
-    let last : vec_items c.add-refusal.new.text ≡ vec_items c.extend-from-slice-3.new.self ++ refusal_text m.refusal = c.in-ok-add-refusal.ensures in
+    let last : vec_items c.add_refusal.new.text ≡ vec_items c.extend_from_slice-3.new.self ++ refusal_text m.refusal = c.in_ok-add_refusal.ensures in
     last ∙ ap (λ l. l ++ refusal_text m.refusal) said ∙ joins c.args.line m.column (expected_text m.expected) (or_at_end m.found.now) (refusal_text m.refusal)

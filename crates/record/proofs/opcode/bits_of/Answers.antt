@@ -3,4 +3,4 @@ use Rattle.record.proofs.opcode.bits_of.Goals as goal
 
 pub returns : goal.returns
 unfolding bits
-returns c = c.row-of.ensures
+returns c = c.row_of.ensures

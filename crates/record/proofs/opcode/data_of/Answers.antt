@@ -3,4 +3,4 @@ use Rattle.record.proofs.opcode.data_of.Goals as goal
 
 pub returns : goal.returns
 unfolding data_words
-returns c = c.row-of.ensures
+returns c = c.row_of.ensures

@@ -3,4 +3,4 @@ use Rattle.record.proofs.opcode.flagged_of.Goals as goal
 
 pub returns : goal.returns
 unfolding flagged
-returns c = c.row-of.ensures
+returns c = c.row_of.ensures

@@ -11,5 +11,5 @@ returns g c =
     record {
       bits = omega arith;
       value = c.min-count.ensures;
-      after = part_spliced c.args.memory.now _ _ c.args.used _ (c.copy-from-slice.ensures.after ∙ ap (λ i. take i piece) start) size;
+      after = part_spliced c.args.memory.now _ _ c.args.used _ (c.copy_from_slice.ensures.after ∙ ap (λ i. take i piece) start) size;
     }

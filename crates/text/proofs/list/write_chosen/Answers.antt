@@ -16,7 +16,7 @@ loop-i-preserved g c =
     elim c.if-rest-eq1.branch [
       | then-rest-eq1+in-ok-write-next w ↦ (
         c.loop-i.invariant.0 ++ next_items c.loop-i.first (get_or all_regs c.loop-i.i R0),
-        subst (λ t. Printed g.T.DisplaySink.meaning g.T.DisplaySink.kept (c.loop-i.invariant.0 ++ next_items c.loop-i.first (get_or all_regs c.loop-i.i R0)) c.args.out.now None t) (sym w.out-is) (both g.T.DisplaySink.laws c.loop-i.invariant.0 (next_items c.loop-i.first (get_or all_regs c.loop-i.i R0)) c.loop-i.invariant.1 w.in-ok-write-next.ensures),
+        subst (λ t. Printed g.T.DisplaySink.meaning g.T.DisplaySink.kept (c.loop-i.invariant.0 ++ next_items c.loop-i.first (get_or all_regs c.loop-i.i R0)) c.args.out.now None t) (sym w.out-is) (both g.T.DisplaySink.laws c.loop-i.invariant.0 (next_items c.loop-i.first (get_or all_regs c.loop-i.i R0)) c.loop-i.invariant.1 w.in_ok-write_next.ensures),
         ap (λ f. (c.loop-i.invariant.0 ++ next_items c.loop-i.first (get_or all_regs c.loop-i.i R0)) ++ ahead f (drop (c.loop-i.i + 1) all_regs) (c.loop-i.rest / 2)) w.first-is
             ∙ append_assoc c.loop-i.invariant.0 _ _
             ∙ ap (λ is. c.loop-i.invariant.0 ++ is) (sym (set_here c.loop-i.first c.loop-i.i c.loop-i.rest R0 c.loop-i-test.true w.if-rest-eq1.true)) ∙ c.loop-i.invariant.2,
@@ -29,11 +29,11 @@ loop-i-preserved g c =
       )
     ]
 
-pub returns-in-err-write-next : goal.returns-in-err-write-next
-returns-in-err-write-next g c =
+pub returns-in_err-write_next : goal.returns-in_err-write_next
+returns-in_err-write_next g c =
     let laws = g.T.DisplaySink.laws in
     renamed (ap (λ is. c.loop-i.invariant.0 ++ is) (sym (set_here c.loop-i.first c.loop-i.i c.loop-i.rest R0 c.loop-i-test.true c.if-rest-eq1.true)) ∙ c.loop-i.invariant.2)
-    (both laws c.loop-i.invariant.0 _ c.loop-i.invariant.1 (stop laws (next_items c.loop-i.first (get_or all_regs c.loop-i.i R0)) (ahead false (drop (c.loop-i.i + 1) all_regs) (c.loop-i.rest / 2)) c.from-residual.result c.in-err-write-next.field-0.0 c.in-err-write-next.ensures c.from-residual.ensures.1))
+    (both laws c.loop-i.invariant.0 _ c.loop-i.invariant.1 (stop laws (next_items c.loop-i.first (get_or all_regs c.loop-i.i R0)) (ahead false (drop (c.loop-i.i + 1) all_regs) (c.loop-i.rest / 2)) c.from_residual.result c.in_err-write_next.field-0.0 c.in_err-write_next.ensures c.from_residual.ensures.1))
 
 pub returns : goal.returns
 returns g c =

@@ -4,23 +4,23 @@ use Rattle.sink.proofs.Chain.{both, stop}
 use Rattle.visitor.specs.Texts.{reg_items, joined, chosen, all_regs}
 use Rattle.text.proofs.list.write_list.Goals as goal
 
-pub returns-in-err-write-text : goal.returns-in-err-write-text
-returns-in-err-write-text g c =
+pub returns-in_err-write_text : goal.returns-in_err-write_text
+returns-in_err-write_text g c =
     let laws = g.T.DisplaySink.laws in
-    record { printed = stop laws (text_items (codes "{")) ((joined (map reg_items (chosen all_regs c.args.mask))) ++ (text_items (codes "}"))) c.from-residual.result c.in-err-write-text.field-0.0 c.in-err-write-text.ensures.printed c.from-residual.ensures.1 }
+    record { printed = stop laws (text_items (codes "{")) ((joined (map reg_items (chosen all_regs c.args.mask))) ++ (text_items (codes "}"))) c.from_residual.result c.in_err-write_text.field-0.0 c.in_err-write_text.ensures.printed c.from_residual.ensures.1 }
 
-pub returns-in-err-write-chosen : goal.returns-in-err-write-chosen
-returns-in-err-write-chosen g c =
+pub returns-in_err-write_chosen : goal.returns-in_err-write_chosen
+returns-in_err-write_chosen g c =
     let laws = g.T.DisplaySink.laws in
     record {
-      printed = both laws (text_items (codes "{")) _ c.in-ok-write-text.ensures.printed
-          (stop laws (joined (map reg_items (chosen all_regs c.args.mask))) (text_items (codes "}")) c.from-residual-in-err-write-chosen.result c.in-err-write-chosen.field-0.0 c.in-err-write-chosen.ensures c.from-residual-in-err-write-chosen.ensures.1);
+      printed = both laws (text_items (codes "{")) _ c.in_ok-write_text.ensures.printed
+          (stop laws (joined (map reg_items (chosen all_regs c.args.mask))) (text_items (codes "}")) c.from_residual-in_err-write_chosen.result c.in_err-write_chosen.field-0.0 c.in_err-write_chosen.ensures c.from_residual-in_err-write_chosen.ensures.1);
     }
 
 pub returns : goal.returns
 returns g c =
     let laws = g.T.DisplaySink.laws in
     record {
-      printed = both laws (text_items (codes "{")) _ c.in-ok-write-text.ensures.printed
-          (both laws (joined (map reg_items (chosen all_regs c.args.mask))) _ c.in-ok-write-chosen.ensures c.write-text-2.ensures.printed);
+      printed = both laws (text_items (codes "{")) _ c.in_ok-write_text.ensures.printed
+          (both laws (joined (map reg_items (chosen all_regs c.args.mask))) _ c.in_ok-write_chosen.ensures c.write_text-2.ensures.printed);
     }

@@ -4,10 +4,10 @@ use Rattle.sink.specs.Items.{text_items}
 use Rattle.visitor.proofs.Pieces.{renamed, texts, text_stop}
 use Rattle.text.proofs.piece.write_in_bank.Goals as goal
 
-pub returns-in-err-write-text : goal.returns-in-err-write-text
-returns-in-err-write-text g c =
-    text_stop g.T.DisplaySink.laws c.args.front.now (bank_name c.args.bank) c.from-residual.result c.in-err-write-text.field-0.0 c.in-err-write-text.ensures.printed c.from-residual.ensures.1
+pub returns-in_err-write_text : goal.returns-in_err-write_text
+returns-in_err-write_text g c =
+    text_stop g.T.DisplaySink.laws c.args.front.now (bank_name c.args.bank) c.from_residual.result c.in_err-write_text.field-0.0 c.in_err-write_text.ensures.printed c.from_residual.ensures.1
 
 pub returns : goal.returns
 returns g c =
-    texts g.T.DisplaySink.laws c.args.front.now (bank_name c.args.bank) c.in-ok-write-text.ensures.printed (renamed (ap text_items c.name.ensures.value) c.write-text-2.ensures.printed)
+    texts g.T.DisplaySink.laws c.args.front.now (bank_name c.args.bank) c.in_ok-write_text.ensures.printed (renamed (ap text_items c.name.ensures.value) c.write_text-2.ensures.printed)

@@ -4,12 +4,12 @@ use Rattle.sink.proofs.Chain.{both, stop}
 use Rattle.visitor.specs.Texts.{reg_items}
 use Rattle.writer.proofs.address.write_base.Goals as goal
 
-pub returns-in-err-write-text : goal.returns-in-err-write-text
-returns-in-err-write-text g c =
+pub returns-in_err-write_text : goal.returns-in_err-write_text
+returns-in_err-write_text g c =
     let laws = g.T.DisplaySink.laws in
-    stop laws (text_items (codes "[")) (reg_items c.args.base) c.from-residual.result c.in-err-write-text.field-0.0 c.in-err-write-text.ensures.printed c.from-residual.ensures.1
+    stop laws (text_items (codes "[")) (reg_items c.args.base) c.from_residual.result c.in_err-write_text.field-0.0 c.in_err-write_text.ensures.printed c.from_residual.ensures.1
 
 pub returns : goal.returns
 returns g c =
     let laws = g.T.DisplaySink.laws in
-    both laws (text_items (codes "[")) _ c.in-ok-write-text.ensures.printed c.write-reg.ensures.printed
+    both laws (text_items (codes "[")) _ c.in_ok-write_text.ensures.printed c.write_reg.ensures.printed

@@ -13,12 +13,12 @@ pub returns-then-offset-eq0 : goal.returns-then-offset-eq0
 returns-then-offset-eq0 g c =
     renamed (ap (items c.args.add c.args.offset) (sym (eq-eqb c.args.offset 0 c.if-offset-eq0.true))) (nothing g.T.DisplaySink.laws c.args.out.now)
 
-pub returns-in-err-write-comma : goal.returns-in-err-write-comma
-returns-in-err-write-comma g c =
+pub returns-in_err-write_comma : goal.returns-in_err-write_comma
+returns-in_err-write_comma g c =
     renamed (ap (items c.args.add c.args.offset) (sym (ne_eqb c.args.offset 0 c.if-offset-eq0.false)))
-    (text_stop g.T.DisplaySink.laws (codes ", " ++ minus c.args.add) (prefixed 4 c.args.offset) c.from-residual.result c.in-err-write-comma.field-0.0 c.in-err-write-comma.ensures c.from-residual.ensures.1)
+    (text_stop g.T.DisplaySink.laws (codes ", " ++ minus c.args.add) (prefixed 4 c.args.offset) c.from_residual.result c.in_err-write_comma.field-0.0 c.in_err-write_comma.ensures c.from_residual.ensures.1)
 
 pub returns : goal.returns
 returns g c =
     renamed (ap (items c.args.add c.args.offset) (sym (ne_eqb c.args.offset 0 c.if-offset-eq0.false)))
-    (texts g.T.DisplaySink.laws (codes ", " ++ minus c.args.add) (prefixed 4 c.args.offset) c.in-ok-write-comma.ensures c.write-prefixed-u16.ensures.printed)
+    (texts g.T.DisplaySink.laws (codes ", " ++ minus c.args.add) (prefixed 4 c.args.offset) c.in_ok-write_comma.ensures c.write_prefixed_u16.ensures.printed)

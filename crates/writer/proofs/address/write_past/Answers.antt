@@ -8,7 +8,7 @@ abbrev items : Bool → List Item
 items a = text_items (codes "], " ++ minus a)
 
 pub returns-then-add : goal.returns-then-add
-returns-then-add g c = renamed (ap items (sym c.if-add.true)) c.write-text.ensures.printed
+returns-then-add g c = renamed (ap items (sym c.if-add.true)) c.write_text.ensures.printed
 
 pub returns-else-add : goal.returns-else-add
-returns-else-add g c = renamed (ap items (sym c.if-add.false)) c.write-text-else-add.ensures.printed
+returns-else-add g c = renamed (ap items (sym c.if-add.false)) c.write_text-else-add.ensures.printed

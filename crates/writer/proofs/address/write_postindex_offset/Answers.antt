@@ -6,11 +6,11 @@ use Rattle.visitor.specs.Texts.{reg_items}
 use Rattle.visitor.proofs.Pieces.{texts, text_stop}
 use Rattle.writer.proofs.address.write_postindex_offset.Goals as goal
 
-pub returns-in-err-write-base : goal.returns-in-err-write-base
-returns-in-err-write-base g c = let laws = g.T.DisplaySink.laws in stop laws (text_items (codes "[") ++ reg_items c.args.base) (text_items (codes "]" ++ (offset_text c.args.add c.args.offset))) c.from-residual.result c.in-err-write-base.field-0.0 c.in-err-write-base.ensures c.from-residual.ensures.1
+pub returns-in_err-write_base : goal.returns-in_err-write_base
+returns-in_err-write_base g c = let laws = g.T.DisplaySink.laws in stop laws (text_items (codes "[") ++ reg_items c.args.base) (text_items (codes "]" ++ (offset_text c.args.add c.args.offset))) c.from_residual.result c.in_err-write_base.field-0.0 c.in_err-write_base.ensures c.from_residual.ensures.1
 
-pub returns-in-err-write-text : goal.returns-in-err-write-text
-returns-in-err-write-text g c = let laws = g.T.DisplaySink.laws in both laws (text_items (codes "[") ++ reg_items c.args.base) _ c.in-ok-write-base.ensures (text_stop laws (codes "]") (offset_text c.args.add c.args.offset) c.from-residual-in-err-write-text.result c.in-err-write-text.field-0.0 c.in-err-write-text.ensures.printed c.from-residual-in-err-write-text.ensures.1)
+pub returns-in_err-write_text : goal.returns-in_err-write_text
+returns-in_err-write_text g c = let laws = g.T.DisplaySink.laws in both laws (text_items (codes "[") ++ reg_items c.args.base) _ c.in_ok-write_base.ensures (text_stop laws (codes "]") (offset_text c.args.add c.args.offset) c.from_residual-in_err-write_text.result c.in_err-write_text.field-0.0 c.in_err-write_text.ensures.printed c.from_residual-in_err-write_text.ensures.1)
 
 pub returns : goal.returns
-returns g c = let laws = g.T.DisplaySink.laws in both laws (text_items (codes "[") ++ reg_items c.args.base) _ c.in-ok-write-base.ensures (texts laws (codes "]") (offset_text c.args.add c.args.offset) c.in-ok-write-text.ensures.printed c.write-offset.ensures)
+returns g c = let laws = g.T.DisplaySink.laws in both laws (text_items (codes "[") ++ reg_items c.args.base) _ c.in_ok-write_base.ensures (texts laws (codes "]") (offset_text c.args.add c.args.offset) c.in_ok-write_text.ensures.printed c.write_offset.ensures)

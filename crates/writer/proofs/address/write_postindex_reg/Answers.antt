@@ -5,27 +5,27 @@ use Rattle.visitor.specs.Operands.{bang, minus}
 use Rattle.visitor.specs.Texts.{reg_items}
 use Rattle.writer.proofs.address.write_postindex_reg.Goals as goal
 
-pub returns-in-err-write-base : goal.returns-in-err-write-base
-returns-in-err-write-base g c =
+pub returns-in_err-write_base : goal.returns-in_err-write_base
+returns-in_err-write_base g c =
     let laws = g.T.DisplaySink.laws in
-    stop laws (text_items (codes "[") ++ reg_items c.args.base) ((text_items (codes "], " ++ minus c.args.add)) ++ ((reg_items c.args.offset) ++ (text_items (bang c.args.wback)))) c.from-residual.result c.in-err-write-base.field-0.0 c.in-err-write-base.ensures c.from-residual.ensures.1
+    stop laws (text_items (codes "[") ++ reg_items c.args.base) ((text_items (codes "], " ++ minus c.args.add)) ++ ((reg_items c.args.offset) ++ (text_items (bang c.args.wback)))) c.from_residual.result c.in_err-write_base.field-0.0 c.in_err-write_base.ensures c.from_residual.ensures.1
 
-pub returns-in-err-write-past : goal.returns-in-err-write-past
-returns-in-err-write-past g c =
+pub returns-in_err-write_past : goal.returns-in_err-write_past
+returns-in_err-write_past g c =
     let laws = g.T.DisplaySink.laws in
-    both laws (text_items (codes "[") ++ reg_items c.args.base) _ c.in-ok-write-base.ensures
-    (stop laws (text_items (codes "], " ++ minus c.args.add)) ((reg_items c.args.offset) ++ (text_items (bang c.args.wback))) c.from-residual-in-err-write-past.result c.in-err-write-past.field-0.0 c.in-err-write-past.ensures c.from-residual-in-err-write-past.ensures.1)
+    both laws (text_items (codes "[") ++ reg_items c.args.base) _ c.in_ok-write_base.ensures
+    (stop laws (text_items (codes "], " ++ minus c.args.add)) ((reg_items c.args.offset) ++ (text_items (bang c.args.wback))) c.from_residual-in_err-write_past.result c.in_err-write_past.field-0.0 c.in_err-write_past.ensures c.from_residual-in_err-write_past.ensures.1)
 
-pub returns-in-err-write-reg : goal.returns-in-err-write-reg
-returns-in-err-write-reg g c =
+pub returns-in_err-write_reg : goal.returns-in_err-write_reg
+returns-in_err-write_reg g c =
     let laws = g.T.DisplaySink.laws in
-    both laws (text_items (codes "[") ++ reg_items c.args.base) _ c.in-ok-write-base.ensures
-    (both laws (text_items (codes "], " ++ minus c.args.add)) _ c.in-ok-write-past.ensures
-    (stop laws (reg_items c.args.offset) (text_items (bang c.args.wback)) c.from-residual-in-err-write-reg.result c.in-err-write-reg.field-0.0 c.in-err-write-reg.ensures.printed c.from-residual-in-err-write-reg.ensures.1))
+    both laws (text_items (codes "[") ++ reg_items c.args.base) _ c.in_ok-write_base.ensures
+    (both laws (text_items (codes "], " ++ minus c.args.add)) _ c.in_ok-write_past.ensures
+    (stop laws (reg_items c.args.offset) (text_items (bang c.args.wback)) c.from_residual-in_err-write_reg.result c.in_err-write_reg.field-0.0 c.in_err-write_reg.ensures.printed c.from_residual-in_err-write_reg.ensures.1))
 
 pub returns : goal.returns
 returns g c =
     let laws = g.T.DisplaySink.laws in
-    both laws (text_items (codes "[") ++ reg_items c.args.base) _ c.in-ok-write-base.ensures
-    (both laws (text_items (codes "], " ++ minus c.args.add)) _ c.in-ok-write-past.ensures
-    (both laws (reg_items c.args.offset) _ c.in-ok-write-reg.ensures.printed c.write-bang.ensures))
+    both laws (text_items (codes "[") ++ reg_items c.args.base) _ c.in_ok-write_base.ensures
+    (both laws (text_items (codes "], " ++ minus c.args.add)) _ c.in_ok-write_past.ensures
+    (both laws (reg_items c.args.offset) _ c.in_ok-write_reg.ensures.printed c.write_bang.ensures))

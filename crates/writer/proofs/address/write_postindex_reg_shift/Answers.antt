@@ -6,19 +6,19 @@ use Rattle.visitor.specs.Operands.{minus}
 use Rattle.visitor.specs.Texts.{reg_items, shift_items}
 use Rattle.writer.proofs.address.write_postindex_reg_shift.Goals as goal
 
-pub returns-in-err-write-base : goal.returns-in-err-write-base
-returns-in-err-write-base g c =
+pub returns-in_err-write_base : goal.returns-in_err-write_base
+returns-in_err-write_base g c =
     let laws = g.T.DisplaySink.laws in
-    stop laws (text_items (codes "[") ++ reg_items c.args.base) ((text_items (codes "], " ++ (minus c.args.add ++ codes " "))) ++ (shift_items (shift_fields (shift_word c.args.shift)))) c.from-residual.result c.in-err-write-base.field-0.0 c.in-err-write-base.ensures c.from-residual.ensures.1
+    stop laws (text_items (codes "[") ++ reg_items c.args.base) ((text_items (codes "], " ++ (minus c.args.add ++ codes " "))) ++ (shift_items (shift_fields (shift_word c.args.shift)))) c.from_residual.result c.in_err-write_base.field-0.0 c.in_err-write_base.ensures c.from_residual.ensures.1
 
-pub returns-in-err-write-past-blank : goal.returns-in-err-write-past-blank
-returns-in-err-write-past-blank g c =
+pub returns-in_err-write_past_blank : goal.returns-in_err-write_past_blank
+returns-in_err-write_past_blank g c =
     let laws = g.T.DisplaySink.laws in
-    both laws (text_items (codes "[") ++ reg_items c.args.base) _ c.in-ok-write-base.ensures
-    (stop laws (text_items (codes "], " ++ (minus c.args.add ++ codes " "))) (shift_items (shift_fields (shift_word c.args.shift))) c.from-residual-in-err-write-past-blank.result c.in-err-write-past-blank.field-0.0 c.in-err-write-past-blank.ensures c.from-residual-in-err-write-past-blank.ensures.1)
+    both laws (text_items (codes "[") ++ reg_items c.args.base) _ c.in_ok-write_base.ensures
+    (stop laws (text_items (codes "], " ++ (minus c.args.add ++ codes " "))) (shift_items (shift_fields (shift_word c.args.shift))) c.from_residual-in_err-write_past_blank.result c.in_err-write_past_blank.field-0.0 c.in_err-write_past_blank.ensures c.from_residual-in_err-write_past_blank.ensures.1)
 
 pub returns : goal.returns
 returns g c =
     let laws = g.T.DisplaySink.laws in
-    both laws (text_items (codes "[") ++ reg_items c.args.base) _ c.in-ok-write-base.ensures
-    (both laws (text_items (codes "], " ++ (minus c.args.add ++ codes " "))) _ c.in-ok-write-past-blank.ensures c.write-shift.ensures)
+    both laws (text_items (codes "[") ++ reg_items c.args.base) _ c.in_ok-write_base.ensures
+    (both laws (text_items (codes "], " ++ (minus c.args.add ++ codes " "))) _ c.in_ok-write_past_blank.ensures c.write_shift.ensures)

@@ -6,27 +6,27 @@ use Rattle.visitor.specs.Operands.{bang, minus}
 use Rattle.visitor.specs.Texts.{reg_items, shift_items}
 use Rattle.writer.proofs.address.write_preindex_reg_shift.Goals as goal
 
-pub returns-in-err-write-base : goal.returns-in-err-write-base
-returns-in-err-write-base g c =
+pub returns-in_err-write_base : goal.returns-in_err-write_base
+returns-in_err-write_base g c =
     let laws = g.T.DisplaySink.laws in
-    stop laws (text_items (codes "[") ++ reg_items c.args.base) ((text_items (codes ", " ++ minus c.args.add)) ++ ((shift_items (shift_fields (shift_word c.args.shift))) ++ (text_items (codes "]" ++ bang c.args.wback)))) c.from-residual.result c.in-err-write-base.field-0.0 c.in-err-write-base.ensures c.from-residual.ensures.1
+    stop laws (text_items (codes "[") ++ reg_items c.args.base) ((text_items (codes ", " ++ minus c.args.add)) ++ ((shift_items (shift_fields (shift_word c.args.shift))) ++ (text_items (codes "]" ++ bang c.args.wback)))) c.from_residual.result c.in_err-write_base.field-0.0 c.in_err-write_base.ensures c.from_residual.ensures.1
 
-pub returns-in-err-write-comma : goal.returns-in-err-write-comma
-returns-in-err-write-comma g c =
+pub returns-in_err-write_comma : goal.returns-in_err-write_comma
+returns-in_err-write_comma g c =
     let laws = g.T.DisplaySink.laws in
-    both laws (text_items (codes "[") ++ reg_items c.args.base) _ c.in-ok-write-base.ensures
-    (stop laws (text_items (codes ", " ++ minus c.args.add)) ((shift_items (shift_fields (shift_word c.args.shift))) ++ (text_items (codes "]" ++ bang c.args.wback))) c.from-residual-in-err-write-comma.result c.in-err-write-comma.field-0.0 c.in-err-write-comma.ensures c.from-residual-in-err-write-comma.ensures.1)
+    both laws (text_items (codes "[") ++ reg_items c.args.base) _ c.in_ok-write_base.ensures
+    (stop laws (text_items (codes ", " ++ minus c.args.add)) ((shift_items (shift_fields (shift_word c.args.shift))) ++ (text_items (codes "]" ++ bang c.args.wback))) c.from_residual-in_err-write_comma.result c.in_err-write_comma.field-0.0 c.in_err-write_comma.ensures c.from_residual-in_err-write_comma.ensures.1)
 
-pub returns-in-err-write-shift : goal.returns-in-err-write-shift
-returns-in-err-write-shift g c =
+pub returns-in_err-write_shift : goal.returns-in_err-write_shift
+returns-in_err-write_shift g c =
     let laws = g.T.DisplaySink.laws in
-    both laws (text_items (codes "[") ++ reg_items c.args.base) _ c.in-ok-write-base.ensures
-    (both laws (text_items (codes ", " ++ minus c.args.add)) _ c.in-ok-write-comma.ensures
-    (stop laws (shift_items (shift_fields (shift_word c.args.shift))) (text_items (codes "]" ++ bang c.args.wback)) c.from-residual-in-err-write-shift.result c.in-err-write-shift.field-0.0 c.in-err-write-shift.ensures c.from-residual-in-err-write-shift.ensures.1))
+    both laws (text_items (codes "[") ++ reg_items c.args.base) _ c.in_ok-write_base.ensures
+    (both laws (text_items (codes ", " ++ minus c.args.add)) _ c.in_ok-write_comma.ensures
+    (stop laws (shift_items (shift_fields (shift_word c.args.shift))) (text_items (codes "]" ++ bang c.args.wback)) c.from_residual-in_err-write_shift.result c.in_err-write_shift.field-0.0 c.in_err-write_shift.ensures c.from_residual-in_err-write_shift.ensures.1))
 
 pub returns : goal.returns
 returns g c =
     let laws = g.T.DisplaySink.laws in
-    both laws (text_items (codes "[") ++ reg_items c.args.base) _ c.in-ok-write-base.ensures
-    (both laws (text_items (codes ", " ++ minus c.args.add)) _ c.in-ok-write-comma.ensures
-    (both laws (shift_items (shift_fields (shift_word c.args.shift))) _ c.in-ok-write-shift.ensures c.write-close.ensures))
+    both laws (text_items (codes "[") ++ reg_items c.args.base) _ c.in_ok-write_base.ensures
+    (both laws (text_items (codes ", " ++ minus c.args.add)) _ c.in_ok-write_comma.ensures
+    (both laws (shift_items (shift_fields (shift_word c.args.shift))) _ c.in_ok-write_shift.ensures c.write_close.ensures))

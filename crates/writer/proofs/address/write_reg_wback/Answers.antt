@@ -4,12 +4,12 @@ use Rattle.visitor.specs.Operands.{bang}
 use Rattle.visitor.specs.Texts.{reg_items}
 use Rattle.writer.proofs.address.write_reg_wback.Goals as goal
 
-pub returns-in-err-write-reg : goal.returns-in-err-write-reg
-returns-in-err-write-reg g c =
+pub returns-in_err-write_reg : goal.returns-in_err-write_reg
+returns-in_err-write_reg g c =
     let laws = g.T.DisplaySink.laws in
-    record { printed = stop laws (reg_items c.args.reg) (text_items (bang c.args.wback)) c.from-residual.result c.in-err-write-reg.field-0.0 c.in-err-write-reg.ensures.printed c.from-residual.ensures.1 }
+    record { printed = stop laws (reg_items c.args.reg) (text_items (bang c.args.wback)) c.from_residual.result c.in_err-write_reg.field-0.0 c.in_err-write_reg.ensures.printed c.from_residual.ensures.1 }
 
 pub returns : goal.returns
 returns g c =
     let laws = g.T.DisplaySink.laws in
-    record { printed = both laws (reg_items c.args.reg) _ c.in-ok-write-reg.ensures.printed c.write-bang.ensures }
+    record { printed = both laws (reg_items c.args.reg) _ c.in_ok-write_reg.ensures.printed c.write_bang.ensures }

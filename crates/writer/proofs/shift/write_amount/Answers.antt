@@ -11,8 +11,8 @@ returns-then-amount-eq0 g c =
 
 pub returns-in-LSR : goal.returns-in-LSR
 returns-in-LSR g c =
-    renamed (ap (λ n. text_items (codes ", lsr " ++ decimal n)) c.whole.ensures ∙ ap (λ s. text_items (amount_text s c.args.amount)) (sym c.in-LSR.is)) c.write-counted-in-LSR.ensures
+    renamed (ap (λ n. text_items (codes ", lsr " ++ decimal n)) c.whole.ensures ∙ ap (λ s. text_items (amount_text s c.args.amount)) (sym c.in-LSR.is)) c.write_counted-in-LSR.ensures
 
 pub returns-in-ASR : goal.returns-in-ASR
 returns-in-ASR g c =
-    renamed (ap (λ n. text_items (codes ", asr " ++ decimal n)) c.whole-in-ASR.ensures ∙ ap (λ s. text_items (amount_text s c.args.amount)) (sym c.in-ASR.is)) c.write-counted-in-ASR.ensures
+    renamed (ap (λ n. text_items (codes ", asr " ++ decimal n)) c.whole-in-ASR.ensures ∙ ap (λ s. text_items (amount_text s c.args.amount)) (sym c.in-ASR.is)) c.write_counted-in-ASR.ensures

@@ -2,12 +2,12 @@ use Rattle.visitor.specs.Texts.{decimal}
 use Rattle.visitor.proofs.Pieces.{texts, text_stop}
 use Rattle.writer.proofs.shift.write_counted.Goals as goal
 
-pub returns-in-err-write-text : goal.returns-in-err-write-text
-returns-in-err-write-text g c =
+pub returns-in_err-write_text : goal.returns-in_err-write_text
+returns-in_err-write_text g c =
     let laws = g.T.DisplaySink.laws in
-    text_stop laws c.args.word.now (decimal c.args.number) c.from-residual.result c.in-err-write-text.field-0.0 c.in-err-write-text.ensures.printed c.from-residual.ensures.1
+    text_stop laws c.args.word.now (decimal c.args.number) c.from_residual.result c.in_err-write_text.field-0.0 c.in_err-write_text.ensures.printed c.from_residual.ensures.1
 
 pub returns : goal.returns
 returns g c =
     let laws = g.T.DisplaySink.laws in
-    texts laws c.args.word.now (decimal c.args.number) c.in-ok-write-text.ensures.printed c.write-decimal.ensures.printed
+    texts laws c.args.word.now (decimal c.args.number) c.in_ok-write_text.ensures.printed c.write_decimal.ensures.printed

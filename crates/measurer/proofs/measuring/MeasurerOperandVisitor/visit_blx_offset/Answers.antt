@@ -7,7 +7,7 @@ use Rattle.measurer.proofs.measuring.MeasurerOperandVisitor.visit_blx_offset.Goa
 pub returns : goal.returns
 returns c =
     let z = c.args.offset in
-    let far : 2 * c.unsigned-abs.result ≡ 2 * nat_abs z = ap (λ n. 2 * n) (c.unsigned-abs.ensures.value ∙ ap nat_abs (to_z-of_z w32 z c.ranges.offset)) in
-    let fits : 2 * c.unsigned-abs.result < 16 ^ 8 = search rules in
-    let digits : c.prefixed-size.result ≡ length (prefixed 8 (2 * nat_abs z)) = c.prefixed-size.ensures.value 8 (omega arith) fits ∙ ap (λ n. length (prefixed 8 n)) far in
+    let far : 2 * c.unsigned_abs.result ≡ 2 * nat_abs z = ap (λ n. 2 * n) (c.unsigned_abs.ensures.value ∙ ap nat_abs (to_z-of_z w32 z c.ranges.offset)) in
+    let fits : 2 * c.unsigned_abs.result < 16 ^ 8 = search rules in
+    let digits : c.prefixed_size.result ≡ length (prefixed 8 (2 * nat_abs z)) = c.prefixed_size.ensures.value 8 (omega arith) fits ∙ ap (λ n. length (prefixed 8 n)) far in
     record { answered = record { told = search rules; size = ap (λ n. 2 + n) digits ∙ omega arith ∙ sym (size_text (branch_text 2 z) ∙ branch_length 2 z) } }

@@ -14,20 +14,20 @@ opens c o e =
     let step : givens (drop c.loop-token.token-index c.args.wanted.now) (ahead c.loop-token.self) ≡ then (given (get_or c.args.wanted.now c.loop-token.token-index Condition) (ahead c.loop-token.self)) (λ x. givens (drop (c.loop-token.token-index + 1) c.args.wanted.now) x.1) = at_drop_more (λ gs. givens gs (ahead c.loop-token.self)) c.args.wanted.now c.loop-token.token-index Condition c.loop-token-test.true in
     c.loop-token.invariant.1 ∙ step ∙ ap (λ p. then p (λ x. givens (drop (c.loop-token.token-index + 1) c.args.wanted.now) x.1)) e
 
-pub returns-in-err-pass : goal.returns-in-err-pass
-returns-in-err-pass c =
-    let e = c.in-err-pass.ensures in
-    let q = err_from_is_err_and c.from-residual.result c.from-residual.ensures.1 in
+pub returns-in_err-pass : goal.returns-in_err-pass
+returns-in_err-pass c =
+    let e = c.in_err-pass.ensures in
+    let q = err_from_is_err_and c.from_residual.result c.from_residual.ensures.1 in
     record {
       reads = subst (λ x. Reads (givens c.args.wanted.now) c.args.self.now x c.pass.new.self) (sym (rw q.2 at q.1)) (record {
         line = e.line ∙ c.loop-token.invariant.0;
-        value = opens (goal.at.returns-in-err-pass c).After-pass _ e.value;
+        value = opens (goal.at.returns-in_err-pass c).After-pass _ e.value;
       });
     }
 
 pub loop-token-preserved : goal.loop-token-preserved
 loop-token-preserved c =
-    let e = c.in-ok-pass.ensures in
+    let e = c.in_ok-pass.ensures in
     (e.line ∙ c.loop-token.invariant.0, opens (goal.at.loop-token-preserved c).After-pass _ e.value)
 
 pub returns : goal.returns

@@ -13,19 +13,19 @@ opens c o e =
     let step : givens (drop c.loop-token.token-index c.args.wanted.now) (ahead c.loop-token.self) ≡ then (given (get_or c.args.wanted.now c.loop-token.token-index Condition) (ahead c.loop-token.self)) (λ x. givens (drop (c.loop-token.token-index + 1) c.args.wanted.now) x.1) = at_drop_more (λ gs. givens gs (ahead c.loop-token.self)) c.args.wanted.now c.loop-token.token-index Condition c.loop-token-test.true in
     c.loop-token.invariant.1 ∙ step ∙ ap (λ p. then p (λ x. givens (drop (c.loop-token.token-index + 1) c.args.wanted.now) x.1)) e
 
-pub returns-in-err-expect : goal.returns-in-err-expect
-returns-in-err-expect c =
-    let e = c.in-err-expect.ensures in
-    let m = c.in-err-expect.field-0.0 in
-    leaves {m = m} c.from-residual.ensures.1 (record {
+pub returns-in_err-expect : goal.returns-in_err-expect
+returns-in_err-expect c =
+    let e = c.in_err-expect.ensures in
+    let m = c.in_err-expect.field-0.0 in
+    leaves {m = m} c.from_residual.ensures.1 (record {
       line = e.line ∙ c.loop-token.invariant.0;
-      value = opens (goal.at.returns-in-err-expect c).After-expect _ e.value;
+      value = opens (goal.at.returns-in_err-expect c).After-expect _ e.value;
       place = subst (λ l. Located l.now m) c.loop-token.invariant.0 e.place;
     })
 
 pub loop-token-preserved : goal.loop-token-preserved
 loop-token-preserved c =
-    let e = c.in-ok-expect.ensures in
+    let e = c.in_ok-expect.ensures in
     (e.line ∙ c.loop-token.invariant.0, opens (goal.at.loop-token-preserved c).After-expect _ e.value)
 
 pub returns : goal.returns
