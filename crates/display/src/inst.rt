@@ -21,7 +21,7 @@ use sink::DisplaySink;
 
 fn write_own_line<T: DisplaySink>(instruction: &Instruction, out: &mut T) -> Result<(), Fault>
     requires { reached_refused 0 (four instruction.now) ≡ None }
-    ensures { Printed meaning kept (line_of (own_parts instruction.now)) out.old (outcome result) out.new }
+    ensures { Printed T.meaning T.kept (line_of (own_parts instruction.now)) out.old (outcome result) out.new }
 {
     let [first, second, third, fourth] = instruction.operands;
     let rest = [second, third, fourth];
@@ -41,7 +41,7 @@ fn write_one_line<T: DisplaySink>(
     instruction: &Instruction,
     out: &mut T,
 ) -> Result<(), Fault>
-    ensures { Printed meaning kept (line_of (one_parts name.now reg instruction.now)) out.old (outcome result) out.new }
+    ensures { Printed T.meaning T.kept (line_of (one_parts name.now reg instruction.now)) out.old (outcome result) out.new }
 {
     write_word(
         name,
@@ -55,7 +55,7 @@ fn write_one_line<T: DisplaySink>(
 
 fn write_load_line<T: DisplaySink>(instruction: &Instruction, out: &mut T) -> Result<(), Fault>
     requires { reached_refused 0 (four instruction.now) ≡ None }
-    ensures { Printed meaning kept (line_of (load_parts instruction.now)) out.old (outcome result) out.new }
+    ensures { Printed T.meaning T.kept (line_of (load_parts instruction.now)) out.old (outcome result) out.new }
 {
     let [first, second, third, fourth] = instruction.operands;
     match pop_one(first, second, third, fourth) {
@@ -66,7 +66,7 @@ fn write_load_line<T: DisplaySink>(instruction: &Instruction, out: &mut T) -> Re
 
 fn write_store_line<T: DisplaySink>(instruction: &Instruction, out: &mut T) -> Result<(), Fault>
     requires { reached_refused 0 (four instruction.now) ≡ None }
-    ensures { Printed meaning kept (line_of (store_parts instruction.now)) out.old (outcome result) out.new }
+    ensures { Printed T.meaning T.kept (line_of (store_parts instruction.now)) out.old (outcome result) out.new }
 {
     let [first, second, third, fourth] = instruction.operands;
     match push_one(first, second, third, fourth) {
@@ -89,7 +89,7 @@ fn write_transfer<T: DisplaySink>(
     mask: u16,
     out: &mut T,
 ) -> Result<(), Fault>
-    ensures { Printed meaning kept (line_of (transfer_parts transfer instruction.now base wback mask)) out.old (outcome result) out.new }
+    ensures { Printed T.meaning T.kept (line_of (transfer_parts transfer instruction.now base wback mask)) out.old (outcome result) out.new }
 {
     if stacks(transfer, base, wback) {
         write_word(
@@ -118,7 +118,7 @@ fn write_block_line<T: DisplaySink>(
     out: &mut T,
 ) -> Result<(), Fault>
     requires { block_shape (shape_at 0 instruction.now) (shape_at 1 instruction.now) (shape_at 2 instruction.now) (shape_at 3 instruction.now) ≡ None }
-    ensures { Printed meaning kept (line_of (block_parts transfer.load transfer.add transfer.pre transfer.wback transfer.user instruction.now)) out.old (outcome result) out.new }
+    ensures { Printed T.meaning T.kept (line_of (block_parts transfer.load transfer.add transfer.pre transfer.wback transfer.user instruction.now)) out.old (outcome result) out.new }
 {
     let [first, second, _, _] = instruction.operands;
     let Operand::RegWBack(base, wback) = first else {
@@ -132,7 +132,7 @@ fn write_block_line<T: DisplaySink>(
 
 fn write_it_line<T: DisplaySink>(instruction: &Instruction, out: &mut T) -> Result<(), Fault>
     requires { it_shape (shape_at 0 instruction.now) (shape_at 1 instruction.now) ≡ None }
-    ensures { Printed meaning kept (line_of (it_parts instruction.now)) out.old (outcome result) out.new }
+    ensures { Printed T.meaning T.kept (line_of (it_parts instruction.now)) out.old (outcome result) out.new }
 {
     let [first, second, _, _] = instruction.operands;
     let Operand::Imm32(number) = first else {
@@ -155,7 +155,7 @@ fn write_it_line<T: DisplaySink>(instruction: &Instruction, out: &mut T) -> Resu
 
 fn write_cps_line<T: DisplaySink>(instruction: &Instruction, out: &mut T) -> Result<(), Fault>
     requires { cps_shape (shape_at 0 instruction.now) (operand 1 instruction.now) ≡ None }
-    ensures { Printed meaning kept (line_of (cps_parts instruction.now)) out.old (outcome result) out.new }
+    ensures { Printed T.meaning T.kept (line_of (cps_parts instruction.now)) out.old (outcome result) out.new }
 {
     let [first, second, _, _] = instruction.operands;
     let Operand::Imm12(flags) = first else {
@@ -173,7 +173,7 @@ fn write_cps_line<T: DisplaySink>(instruction: &Instruction, out: &mut T) -> Res
 
 fn write_setend_line<T: DisplaySink>(instruction: &Instruction, out: &mut T) -> Result<(), Fault>
     requires { setend_shape (shape_at 0 instruction.now) ≡ None }
-    ensures { Printed meaning kept (line_of (setend_parts instruction.now)) out.old (outcome result) out.new }
+    ensures { Printed T.meaning T.kept (line_of (setend_parts instruction.now)) out.old (outcome result) out.new }
 {
     let [first, _, _, _] = instruction.operands;
     let Operand::Imm12(number) = first else {
@@ -195,7 +195,7 @@ fn write_coprocessor_line<T: DisplaySink>(
     out: &mut T,
 ) -> Result<(), Fault>
     requires { reached_refused 0 (four instruction.now) ≡ None }
-    ensures { Printed meaning kept (line_of (coprocessor_parts (suffixes_of codes.suffixes) (codes.coprocessor ∷ optional codes.second) (optional codes.third) instruction.now)) out.old (outcome result) out.new }
+    ensures { Printed T.meaning T.kept (line_of (coprocessor_parts (suffixes_of codes.suffixes) (codes.coprocessor ∷ optional codes.second) (optional codes.third) instruction.now)) out.old (outcome result) out.new }
 {
     let [first, second, third, fourth] = instruction.operands;
     let operands = [first, second, third, fourth];
@@ -208,7 +208,7 @@ fn write_coprocessor_line<T: DisplaySink>(
 
 fn write_line<T: DisplaySink>(instruction: &Instruction, out: &mut T) -> Result<(), Fault>
     requires { refused instruction.now ≡ None }
-    ensures { Printed meaning kept (line instruction.now) out.old (outcome result) out.new }
+    ensures { Printed T.meaning T.kept (line instruction.now) out.old (outcome result) out.new }
 {
     match kind_by(instruction.opcode) {
         Kind::Block(transfer) => write_block_line(transfer, instruction, out),
@@ -226,7 +226,7 @@ fn write_line<T: DisplaySink>(instruction: &Instruction, out: &mut T) -> Result<
 
 // Prints the line of an instruction that is not refused to a sink, as much of it as there is room for.
 pub fn visit_inst<T: DisplaySink>(instruction: &Instruction, out: &mut T) -> Result<(), Fault>
-    ensures printed_or_refused { PrintedUnless meaning kept (refused instruction.now) (line instruction.now) out.old (outcome result) out.new }
+    ensures printed_or_refused { PrintedUnless T.meaning T.kept (refused instruction.now) (line instruction.now) out.old (outcome result) out.new }
 {
     admit(instruction)?;
     write_line(instruction, out)

@@ -16,7 +16,7 @@ use writer::write_operand;
 // The operands before the first Nothing, each behind a comma.
 pub(crate) fn write_followed<T: DisplaySink>(operands: &[Operand], out: &mut T) -> Result<(), Fault>
     requires { reached_refused 0 operands.now ≡ None }
-    ensures { Printed meaning kept (followed (map operand_items (reached operands.now))) out.old (outcome result) out.new }
+    ensures { Printed T.meaning T.kept (followed (map operand_items (reached operands.now))) out.old (outcome result) out.new }
 {
     for operand in operands {
         if is_nothing(*operand) {

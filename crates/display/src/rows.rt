@@ -26,7 +26,7 @@ pub(crate) fn write_operands<T: DisplaySink>(
     out: &mut T,
 ) -> Result<(), Fault>
     requires { reached_refused 0 (first ∷ rest.now) ≡ None }
-    ensures { Printed meaning kept (behind_word (map operand_items (reached (first ∷ rest.now)))) out.old (outcome result) out.new }
+    ensures { Printed T.meaning T.kept (behind_word (map operand_items (reached (first ∷ rest.now)))) out.old (outcome result) out.new }
 {
     if is_nothing(first) {
         return Ok(());
@@ -38,7 +38,7 @@ pub(crate) fn write_operands<T: DisplaySink>(
 
 // The list of a pop or a push.
 pub fn write_stack_list<T: DisplaySink>(registers: u16, out: &mut T) -> Result<(), Fault>
-    ensures printed { Printed meaning kept (behind_word (list_items registers ∷ [])) out.old (outcome result) out.new }
+    ensures printed { Printed T.meaning T.kept (behind_word (list_items registers ∷ [])) out.old (outcome result) out.new }
 {
     write_text(out, b" ")?;
     write_list(out, registers)
@@ -46,7 +46,7 @@ pub fn write_stack_list<T: DisplaySink>(registers: u16, out: &mut T) -> Result<(
 
 // A register in two spans.
 fn write_twice_spanned<T: DisplaySink>(reg: Reg, out: &mut T) -> Result<(), Fault>
-    ensures { Printed meaning kept (edge Start Register ∷ (reg_items reg ++ edge End Register ∷ [])) out.old (outcome result) out.new }
+    ensures { Printed T.meaning T.kept (edge Start Register ∷ (reg_items reg ++ edge End Register ∷ [])) out.old (outcome result) out.new }
 {
     out.span_start_register();
     write_reg(out, reg)?;
@@ -56,7 +56,7 @@ fn write_twice_spanned<T: DisplaySink>(reg: Reg, out: &mut T) -> Result<(), Faul
 
 // The one register of a pop or a push.
 pub(crate) fn write_stack_one<T: DisplaySink>(reg: Reg, out: &mut T) -> Result<(), Fault>
-    ensures { Printed meaning kept (behind_word (one_row reg ∷ [])) out.old (outcome result) out.new }
+    ensures { Printed T.meaning T.kept (behind_word (one_row reg ∷ [])) out.old (outcome result) out.new }
 {
     write_text(out, b" {")?;
     write_twice_spanned(reg, out)?;
@@ -71,7 +71,7 @@ pub fn write_block<T: DisplaySink>(
     user: bool,
     out: &mut T,
 ) -> Result<(), Fault>
-    ensures printed { Printed meaning kept (behind_word ((reg_items base ++ text_items (bang wback)) ∷ (list_items mask ++ text_items (flagged user (codes "^"))) ∷ [])) out.old (outcome result) out.new }
+    ensures printed { Printed T.meaning T.kept (behind_word ((reg_items base ++ text_items (bang wback)) ∷ (list_items mask ++ text_items (flagged user (codes "^"))) ∷ [])) out.old (outcome result) out.new }
 {
     write_text(out, b" ")?;
     write_reg_wback(out, base, wback)?;
@@ -82,7 +82,7 @@ pub fn write_block<T: DisplaySink>(
 
 // A code behind a comma, where there is one.
 fn write_code<T: DisplaySink>(code: Option<u8>, out: &mut T) -> Result<(), Fault>
-    ensures { Printed meaning kept (followed (map code_row (optional code))) out.old (outcome result) out.new }
+    ensures { Printed T.meaning T.kept (followed (map code_row (optional code))) out.old (outcome result) out.new }
 {
     let Some(number) = code else {
         return Ok(());
@@ -97,7 +97,7 @@ fn write_codes<T: DisplaySink>(
     second: Option<u8>,
     out: &mut T,
 ) -> Result<(), Fault>
-    ensures { Printed meaning kept (text_items (codes " p") ++ (text_items (decimal coprocessor) ++ followed (map code_row (optional second)))) out.old (outcome result) out.new }
+    ensures { Printed T.meaning T.kept (text_items (codes " p") ++ (text_items (decimal coprocessor) ++ followed (map code_row (optional second)))) out.old (outcome result) out.new }
 {
     write_text(out, b" p")?;
     write_decimal(out, coprocessor)?;
@@ -113,7 +113,7 @@ pub(crate) fn write_coprocessor<T: DisplaySink>(
     out: &mut T,
 ) -> Result<(), Fault>
     requires { reached_refused 0 operands.now ≡ None }
-    ensures { Printed meaning kept (behind_word (code_rows (coprocessor ∷ optional second) ++ (map operand_items (reached operands.now) ++ map code_row (optional third)))) out.old (outcome result) out.new }
+    ensures { Printed T.meaning T.kept (behind_word (code_rows (coprocessor ∷ optional second) ++ (map operand_items (reached operands.now) ++ map code_row (optional third)))) out.old (outcome result) out.new }
 {
     write_codes(coprocessor, second, out)?;
     write_followed(operands, out)?;

@@ -35,7 +35,7 @@ const CONDITIONS: [ConditionCode; 15] = [
 // The condition of an IT block.
 pub(crate) fn write_it_condition<T: DisplaySink>(number: u32, out: &mut T) -> Result<(), Fault>
     requires { number ≤ 14 }
-    ensures { Printed meaning kept (behind_word (text_items (condition_name (condition_at number)) ∷ [])) out.old (outcome result) out.new }
+    ensures { Printed T.meaning T.kept (behind_word (text_items (condition_name (condition_at number)) ∷ [])) out.old (outcome result) out.new }
 {
     write_text(out, b" ")?;
     write_text(out, CONDITIONS[number as usize].name())
@@ -43,7 +43,7 @@ pub(crate) fn write_it_condition<T: DisplaySink>(number: u32, out: &mut T) -> Re
 
 // The state that a SETEND sets.
 pub(crate) fn write_setend<T: DisplaySink>(number: u16, out: &mut T) -> Result<(), Fault>
-    ensures { Printed meaning kept (behind_word (text_items (setend_text number) ∷ [])) out.old (outcome result) out.new }
+    ensures { Printed T.meaning T.kept (behind_word (text_items (setend_text number) ∷ [])) out.old (outcome result) out.new }
 {
     if number == 0 {
         write_text(out, b" le")
@@ -53,7 +53,7 @@ pub(crate) fn write_setend<T: DisplaySink>(number: u16, out: &mut T) -> Result<(
 }
 
 fn write_cps_letters<T: DisplaySink>(flags: u16, out: &mut T) -> Result<(), Fault>
-    ensures { Printed meaning kept (text_items (cps_letters flags)) out.old (outcome result) out.new }
+    ensures { Printed T.meaning T.kept (text_items (cps_letters flags)) out.old (outcome result) out.new }
 {
     write_flagged(flags / 4 % 2 == 1, b"a", out)?;
     write_flagged(flags / 2 % 2 == 1, b"i", out)?;
@@ -62,7 +62,7 @@ fn write_cps_letters<T: DisplaySink>(flags: u16, out: &mut T) -> Result<(), Faul
 
 // The interrupts that a CPS switches.
 fn write_cps_flags<T: DisplaySink>(flags: u16, out: &mut T) -> Result<(), Fault>
-    ensures { Printed meaning kept (if nat_eq flags 0 then [] else text_items (codes " ") ++ text_items (cps_letters flags)) out.old (outcome result) out.new }
+    ensures { Printed T.meaning T.kept (if nat_eq flags 0 then [] else text_items (codes " ") ++ text_items (cps_letters flags)) out.old (outcome result) out.new }
 {
     if flags == 0 {
         return Ok(());
@@ -87,7 +87,7 @@ fn before_mode(flags: u16) -> &'static [u8]
 }
 
 fn write_cps_mode<T: DisplaySink>(flags: u16, mode: u16, out: &mut T) -> Result<(), Fault>
-    ensures { Printed meaning kept (text_items ((if nat_eq flags 0 then (codes " #") else (codes ", #")) ++ prefixed 4 mode)) out.old (outcome result) out.new }
+    ensures { Printed T.meaning T.kept (text_items ((if nat_eq flags 0 then (codes " #") else (codes ", #")) ++ prefixed 4 mode)) out.old (outcome result) out.new }
 {
     write_text(out, before_mode(flags))?;
     write_prefixed_u16(out, mode)
@@ -99,7 +99,7 @@ pub(crate) fn write_cps<T: DisplaySink>(
     second: Operand,
     out: &mut T,
 ) -> Result<(), Fault>
-    ensures { Printed meaning kept (behind_word (flag_row flags ++ mode_rows (mode_of (shape second)))) out.old (outcome result) out.new }
+    ensures { Printed T.meaning T.kept (behind_word (flag_row flags ++ mode_rows (mode_of (shape second)))) out.old (outcome result) out.new }
 {
     write_cps_flags(flags, out)?;
     match mode_by(second) {

@@ -17,7 +17,7 @@ pub(crate) fn write_flagged<T: DisplaySink>(
     text: &[u8],
     out: &mut T,
 ) -> Result<(), Fault>
-    ensures { Printed meaning kept (text_items (flagged flag text.now)) out.old (outcome result) out.new }
+    ensures { Printed T.meaning T.kept (text_items (flagged flag text.now)) out.old (outcome result) out.new }
 {
     if flag { write_text(out, text) } else { Ok(()) }
 }
@@ -33,7 +33,7 @@ fn is_always(condition: ConditionCode) -> bool
 
 // The condition's letters, one after the other; AL has none.
 fn write_condition<T: DisplaySink>(condition: ConditionCode, out: &mut T) -> Result<(), Fault>
-    ensures { Printed meaning kept (text_items (condition_suffix condition)) out.old (outcome result) out.new }
+    ensures { Printed T.meaning T.kept (text_items (condition_suffix condition)) out.old (outcome result) out.new }
 {
     if is_always(condition) {
         return Ok(());
@@ -49,7 +49,7 @@ fn write_suffix<T: DisplaySink>(
     w: bool,
     out: &mut T,
 ) -> Result<(), Fault>
-    ensures { Printed meaning kept (text_items (suffix_of s condition w)) out.old (outcome result) out.new }
+    ensures { Printed T.meaning T.kept (text_items (suffix_of s condition w)) out.old (outcome result) out.new }
 {
     write_flagged(s, b"s", out)?;
     write_condition(condition, out)?;
@@ -63,7 +63,7 @@ fn write_mnemonic<T: DisplaySink>(
     w: bool,
     out: &mut T,
 ) -> Result<(), Fault>
-    ensures { Printed meaning kept (text_items (name.now ++ suffix_of s condition w)) out.old (outcome result) out.new }
+    ensures { Printed T.meaning T.kept (text_items (name.now ++ suffix_of s condition w)) out.old (outcome result) out.new }
 {
     write_text(out, name)?;
     write_suffix(s, condition, w, out)
@@ -77,7 +77,7 @@ pub fn write_word<T: DisplaySink>(
     w: bool,
     out: &mut T,
 ) -> Result<(), Fault>
-    ensures printed { Printed meaning kept (word_items (name.now ++ suffix_of s condition w)) out.old (outcome result) out.new }
+    ensures printed { Printed T.meaning T.kept (word_items (name.now ++ suffix_of s condition w)) out.old (outcome result) out.new }
 {
     out.span_start_opcode();
     write_mnemonic(name, s, condition, w, out)?;
@@ -108,7 +108,7 @@ fn it_count(mask: u32) -> usize
 }
 
 fn write_it_letters<T: DisplaySink>(condition: u32, mask: u32, out: &mut T) -> Result<(), Fault>
-    ensures { Printed meaning kept (text_items (it_letters condition mask)) out.old (outcome result) out.new }
+    ensures { Printed T.meaning T.kept (text_items (it_letters condition mask)) out.old (outcome result) out.new }
 {
     let letters = [
         it_letter_at(condition, mask / 8),
@@ -128,7 +128,7 @@ fn write_it_mnemonic<T: DisplaySink>(
     mask: u32,
     out: &mut T,
 ) -> Result<(), Fault>
-    ensures { Printed meaning kept (text_items (name.now ++ (suffix_of s condition w ++ it_letters first mask))) out.old (outcome result) out.new }
+    ensures { Printed T.meaning T.kept (text_items (name.now ++ (suffix_of s condition w ++ it_letters first mask))) out.old (outcome result) out.new }
 {
     write_text(out, name)?;
     write_suffix(s, condition, w, out)?;
@@ -145,7 +145,7 @@ pub(crate) fn write_it_word<T: DisplaySink>(
     mask: u32,
     out: &mut T,
 ) -> Result<(), Fault>
-    ensures { Printed meaning kept (word_items (name.now ++ (suffix_of s condition w ++ it_letters first mask))) out.old (outcome result) out.new }
+    ensures { Printed T.meaning T.kept (word_items (name.now ++ (suffix_of s condition w ++ it_letters first mask))) out.old (outcome result) out.new }
 {
     out.span_start_opcode();
     write_it_mnemonic(name, s, condition, w, first, mask, out)?;

@@ -42,7 +42,7 @@ fn write_block_line<T: DisplaySink>(
     w: bool,
     out: &mut T,
 ) -> Result<(), Fault>
-    ensures { Printed meaning kept (line_of (block_parts block condition w)) out.old (outcome result) out.new }
+    ensures { Printed T.meaning T.kept (line_of (block_parts block condition w)) out.old (outcome result) out.new }
 {
     if stacks(block) {
         write_word(name_on_stack(block.load), false, condition, w, out)?;
@@ -56,7 +56,7 @@ fn write_block_line<T: DisplaySink>(
 
 // The one register of a pop or a push.
 fn write_one<T: DisplaySink>(reg: Reg, out: &mut T) -> Result<(), Fault>
-    ensures { Printed meaning kept (behind_word (one_row reg ∷ [])) out.old (outcome result) out.new }
+    ensures { Printed T.meaning T.kept (behind_word (one_row reg ∷ [])) out.old (outcome result) out.new }
 {
     write_text(out, b" {")?;
     write_reg(out, reg)?;
@@ -70,7 +70,7 @@ fn write_one_line<T: DisplaySink>(
     w: bool,
     out: &mut T,
 ) -> Result<(), Fault>
-    ensures { Printed meaning kept (line_of (one_parts name.now reg condition w)) out.old (outcome result) out.new }
+    ensures { Printed T.meaning T.kept (line_of (one_parts name.now reg condition w)) out.old (outcome result) out.new }
 {
     write_word(name, false, condition, w, out)?;
     write_one(reg, out)
@@ -82,7 +82,7 @@ fn write_transfer<T: DisplaySink>(
     w: bool,
     out: &mut T,
 ) -> Result<(), Fault>
-    ensures { Printed meaning kept (line_of (transfer_parts transfer condition w)) out.old (outcome result) out.new }
+    ensures { Printed T.meaning T.kept (line_of (transfer_parts transfer condition w)) out.old (outcome result) out.new }
 {
     match transfer {
         Transfer::Many(block) => write_block_line(block, condition, w, out),
@@ -105,7 +105,7 @@ fn in_order(admitted: Result<(), Fault>, found: Option<Transfer>) -> Result<Tran
 
 // Prints the manual line of an instruction that is not refused to a sink, as much of it as there is room for.
 pub fn visit_manual<T: DisplaySink>(instruction: &Instruction, out: &mut T) -> Result<(), Fault>
-    ensures printed { PrintedUnless meaning kept (manual_refused instruction.now) (manual_line instruction.now) out.old (outcome result) out.new }
+    ensures printed { PrintedUnless T.meaning T.kept (manual_refused instruction.now) (manual_line instruction.now) out.old (outcome result) out.new }
 {
     let [first, second, third, fourth] = instruction.operands;
     let found = transfer_of(instruction.opcode, first, second, third, fourth);

@@ -30,7 +30,7 @@ const ALL_REGS: [Reg; 16] = [
 
 // A register, behind a comma unless it is the first.
 fn write_next<T: DisplaySink>(out: &mut T, first: bool, reg: Reg) -> Result<(), Fault>
-    ensures { Printed meaning kept ((if first then [] else text_items (codes ", ")) ++ reg_items reg) out.old (outcome result) out.new }
+    ensures { Printed T.meaning T.kept ((if first then [] else text_items (codes ", ")) ++ reg_items reg) out.old (outcome result) out.new }
 {
     if first {
         return write_reg(out, reg);
@@ -41,7 +41,7 @@ fn write_next<T: DisplaySink>(out: &mut T, first: bool, reg: Reg) -> Result<(), 
 
 // The registers whose bits are set, with commas between them.
 fn write_chosen<T: DisplaySink>(out: &mut T, mask: u16) -> Result<(), Fault>
-    ensures { Printed meaning kept (joined (map reg_items (chosen all_regs mask))) out.old (outcome result) out.new }
+    ensures { Printed T.meaning T.kept (joined (map reg_items (chosen all_regs mask))) out.old (outcome result) out.new }
 {
     let mut rest = mask;
     let mut first = true;
@@ -56,7 +56,7 @@ fn write_chosen<T: DisplaySink>(out: &mut T, mask: u16) -> Result<(), Fault>
 }
 
 pub fn write_list<T: DisplaySink>(out: &mut T, mask: u16) -> Result<(), Fault>
-    ensures printed { Printed meaning kept (list_items mask) out.old (outcome result) out.new }
+    ensures printed { Printed T.meaning T.kept (list_items mask) out.old (outcome result) out.new }
 {
     write_text(out, b"{")?;
     write_chosen(out, mask)?;

@@ -38,7 +38,7 @@ fn fill_prefixed(memory: &mut [u8; 10], width: usize, number: u64) -> usize
 // `0x` and the last digits of the number in base 16, without leading zeros.
 fn write_prefixed<T: DisplaySink>(out: &mut T, width: usize, number: u64) -> Result<(), Fault>
     requires { width ≤ 8 }
-    ensures { Printed meaning kept (text_items (prefixed width number)) out.old (outcome result) out.new }
+    ensures { Printed T.meaning T.kept (text_items (prefixed width number)) out.old (outcome result) out.new }
 {
     let mut memory = [0u8; 10];
     let start = fill_prefixed(&mut memory, width, number);
@@ -46,26 +46,26 @@ fn write_prefixed<T: DisplaySink>(out: &mut T, width: usize, number: u64) -> Res
 }
 
 pub(crate) fn write_prefixed_u8<T: DisplaySink>(out: &mut T, number: u8) -> Result<(), Fault>
-    ensures { Printed meaning kept (text_items (prefixed 2 number)) out.old (outcome result) out.new }
+    ensures { Printed T.meaning T.kept (text_items (prefixed 2 number)) out.old (outcome result) out.new }
 {
     write_prefixed(out, 2, u64::from(number))
 }
 
 pub fn write_prefixed_u16<T: DisplaySink>(out: &mut T, number: u16) -> Result<(), Fault>
-    ensures printed { Printed meaning kept (text_items (prefixed 4 number)) out.old (outcome result) out.new }
+    ensures printed { Printed T.meaning T.kept (text_items (prefixed 4 number)) out.old (outcome result) out.new }
 {
     write_prefixed(out, 4, u64::from(number))
 }
 
 pub fn write_prefixed_u32<T: DisplaySink>(out: &mut T, number: u32) -> Result<(), Fault>
-    ensures printed { Printed meaning kept (text_items (prefixed 8 number)) out.old (outcome result) out.new }
+    ensures printed { Printed T.meaning T.kept (text_items (prefixed 8 number)) out.old (outcome result) out.new }
 {
     write_prefixed(out, 8, u64::from(number))
 }
 
 // The digits of the number, in decimal.
 pub fn write_decimal<T: DisplaySink>(out: &mut T, number: u8) -> Result<(), Fault>
-    ensures printed { Printed meaning kept (text_items (decimal number)) out.old (outcome result) out.new }
+    ensures printed { Printed T.meaning T.kept (text_items (decimal number)) out.old (outcome result) out.new }
 {
     if number < 10 {
         return write_text(out, &[48 + number]);
@@ -82,7 +82,7 @@ fn direction(distance: i32) -> &'static [u8]
 
 // A branch distance, in steps of the scale.
 pub fn write_branch<T: DisplaySink>(out: &mut T, scale: u8, distance: i32) -> Result<(), Fault>
-    ensures printed { Printed meaning kept (text_items (branch_text scale distance)) out.old (outcome result) out.new }
+    ensures printed { Printed T.meaning T.kept (text_items (branch_text scale distance)) out.old (outcome result) out.new }
 {
     write_text(out, direction(distance))?;
     write_prefixed(
@@ -94,7 +94,7 @@ pub fn write_branch<T: DisplaySink>(out: &mut T, scale: u8, distance: i32) -> Re
 
 // The option of a coprocessor, in braces.
 pub fn write_option<T: DisplaySink>(out: &mut T, number: u8) -> Result<(), Fault>
-    ensures printed { Printed meaning kept (text_items (codes "{" ++ (prefixed 2 number ++ codes "}"))) out.old (outcome result) out.new }
+    ensures printed { Printed T.meaning T.kept (text_items (codes "{" ++ (prefixed 2 number ++ codes "}"))) out.old (outcome result) out.new }
 {
     write_text(out, b"{")?;
     write_prefixed_u8(out, number)?;

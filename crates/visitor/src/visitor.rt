@@ -125,7 +125,7 @@ pub trait OperandVisitor {
 
 // Has the visitor visit the operand by the method of its kind.
 pub fn visit<V: OperandVisitor>(operand: &Operand, visitor: &mut V) -> Result<V::Ok, V::Error>
-    ensures answered { answers operand.now visitor.old result visitor.new }
+    ensures answered { V.answers operand.now visitor.old result visitor.new }
 {
     match *operand {
         Operand::Reg(reg) => visitor.visit_reg(reg),

@@ -14,14 +14,14 @@ use sink::DisplaySink;
 use text::{write_prefixed_u16, write_reg, write_text};
 
 fn write_bang<T: DisplaySink>(out: &mut T, wback: bool) -> Result<(), Fault>
-    ensures { Printed meaning kept (text_items (bang wback)) out.old (outcome result) out.new }
+    ensures { Printed T.meaning T.kept (text_items (bang wback)) out.old (outcome result) out.new }
 {
     if wback { write_text(out, b"!") } else { Ok(()) }
 }
 
 // The end of an address whose offset stands inside it.
 fn write_close<T: DisplaySink>(out: &mut T, wback: bool) -> Result<(), Fault>
-    ensures { Printed meaning kept (text_items (codes "]" ++ bang wback)) out.old (outcome result) out.new }
+    ensures { Printed T.meaning T.kept (text_items (codes "]" ++ bang wback)) out.old (outcome result) out.new }
 {
     if wback {
         write_text(out, b"]!")
@@ -32,7 +32,7 @@ fn write_close<T: DisplaySink>(out: &mut T, wback: bool) -> Result<(), Fault>
 
 // What stands before an offset inside the address.
 fn write_comma<T: DisplaySink>(out: &mut T, add: bool) -> Result<(), Fault>
-    ensures { Printed meaning kept (text_items (codes ", " ++ minus add)) out.old (outcome result) out.new }
+    ensures { Printed T.meaning T.kept (text_items (codes ", " ++ minus add)) out.old (outcome result) out.new }
 {
     if add {
         write_text(out, b", ")
@@ -43,7 +43,7 @@ fn write_comma<T: DisplaySink>(out: &mut T, add: bool) -> Result<(), Fault>
 
 // What stands before a register behind the address.
 fn write_past<T: DisplaySink>(out: &mut T, add: bool) -> Result<(), Fault>
-    ensures { Printed meaning kept (text_items (codes "], " ++ minus add)) out.old (outcome result) out.new }
+    ensures { Printed T.meaning T.kept (text_items (codes "], " ++ minus add)) out.old (outcome result) out.new }
 {
     if add {
         write_text(out, b"], ")
@@ -54,7 +54,7 @@ fn write_past<T: DisplaySink>(out: &mut T, add: bool) -> Result<(), Fault>
 
 // What stands before a shift behind the address.
 fn write_past_blank<T: DisplaySink>(out: &mut T, add: bool) -> Result<(), Fault>
-    ensures { Printed meaning kept (text_items (codes "], " ++ (minus add ++ codes " "))) out.old (outcome result) out.new }
+    ensures { Printed T.meaning T.kept (text_items (codes "], " ++ (minus add ++ codes " "))) out.old (outcome result) out.new }
 {
     if add {
         write_text(out, b"],  ")
@@ -64,7 +64,7 @@ fn write_past_blank<T: DisplaySink>(out: &mut T, add: bool) -> Result<(), Fault>
 }
 
 fn write_base<T: DisplaySink>(out: &mut T, base: Reg) -> Result<(), Fault>
-    ensures { Printed meaning kept (text_items (codes "[") ++ reg_items base) out.old (outcome result) out.new }
+    ensures { Printed T.meaning T.kept (text_items (codes "[") ++ reg_items base) out.old (outcome result) out.new }
 {
     write_text(out, b"[")?;
     write_reg(out, base)
@@ -72,7 +72,7 @@ fn write_base<T: DisplaySink>(out: &mut T, base: Reg) -> Result<(), Fault>
 
 // An offset of 0 is not shown.
 fn write_offset<T: DisplaySink>(out: &mut T, offset: u16, add: bool) -> Result<(), Fault>
-    ensures { Printed meaning kept (text_items (offset_text add offset)) out.old (outcome result) out.new }
+    ensures { Printed T.meaning T.kept (text_items (offset_text add offset)) out.old (outcome result) out.new }
 {
     if offset == 0 {
         return Ok(());
@@ -82,14 +82,14 @@ fn write_offset<T: DisplaySink>(out: &mut T, offset: u16, add: bool) -> Result<(
 }
 
 pub fn write_reg_wback<T: DisplaySink>(out: &mut T, reg: Reg, wback: bool) -> Result<(), Fault>
-    ensures printed { Printed meaning kept (operand_items (RegWBack reg wback)) out.old (outcome result) out.new }
+    ensures printed { Printed T.meaning T.kept (operand_items (RegWBack reg wback)) out.old (outcome result) out.new }
 {
     write_reg(out, reg)?;
     write_bang(out, wback)
 }
 
 pub(crate) fn write_deref<T: DisplaySink>(out: &mut T, reg: Reg) -> Result<(), Fault>
-    ensures { Printed meaning kept (operand_items (RegDeref reg)) out.old (outcome result) out.new }
+    ensures { Printed T.meaning T.kept (operand_items (RegDeref reg)) out.old (outcome result) out.new }
 {
     write_base(out, reg)?;
     write_text(out, b"]")
@@ -102,7 +102,7 @@ pub(crate) fn write_postindex_reg_shift<T: DisplaySink>(
     shift: RegShift,
     add: bool,
 ) -> Result<(), Fault>
-    ensures { Printed meaning kept (operand_items (RegDerefPostindexRegShift base shift add false)) out.old (outcome result) out.new }
+    ensures { Printed T.meaning T.kept (operand_items (RegDerefPostindexRegShift base shift add false)) out.old (outcome result) out.new }
 {
     write_base(out, base)?;
     write_past_blank(out, add)?;
@@ -116,7 +116,7 @@ pub(crate) fn write_preindex_reg_shift<T: DisplaySink>(
     add: bool,
     wback: bool,
 ) -> Result<(), Fault>
-    ensures { Printed meaning kept (operand_items (RegDerefPreindexRegShift base shift add wback)) out.old (outcome result) out.new }
+    ensures { Printed T.meaning T.kept (operand_items (RegDerefPreindexRegShift base shift add wback)) out.old (outcome result) out.new }
 {
     write_base(out, base)?;
     write_comma(out, add)?;
@@ -131,7 +131,7 @@ pub(crate) fn write_postindex_offset<T: DisplaySink>(
     offset: u16,
     add: bool,
 ) -> Result<(), Fault>
-    ensures { Printed meaning kept (operand_items (RegDerefPostindexOffset base offset add false)) out.old (outcome result) out.new }
+    ensures { Printed T.meaning T.kept (operand_items (RegDerefPostindexOffset base offset add false)) out.old (outcome result) out.new }
 {
     write_base(out, base)?;
     write_text(out, b"]")?;
@@ -145,7 +145,7 @@ pub(crate) fn write_preindex_offset<T: DisplaySink>(
     add: bool,
     wback: bool,
 ) -> Result<(), Fault>
-    ensures { Printed meaning kept (operand_items (RegDerefPreindexOffset base offset add wback)) out.old (outcome result) out.new }
+    ensures { Printed T.meaning T.kept (operand_items (RegDerefPreindexOffset base offset add wback)) out.old (outcome result) out.new }
 {
     write_base(out, base)?;
     write_offset(out, offset, add)?;
@@ -159,7 +159,7 @@ pub(crate) fn write_postindex_reg<T: DisplaySink>(
     add: bool,
     wback: bool,
 ) -> Result<(), Fault>
-    ensures { Printed meaning kept (operand_items (RegDerefPostindexReg base offset add wback)) out.old (outcome result) out.new }
+    ensures { Printed T.meaning T.kept (operand_items (RegDerefPostindexReg base offset add wback)) out.old (outcome result) out.new }
 {
     write_base(out, base)?;
     write_past(out, add)?;
@@ -174,7 +174,7 @@ pub(crate) fn write_preindex_reg<T: DisplaySink>(
     add: bool,
     wback: bool,
 ) -> Result<(), Fault>
-    ensures { Printed meaning kept (operand_items (RegDerefPreindexReg base index add wback)) out.old (outcome result) out.new }
+    ensures { Printed T.meaning T.kept (operand_items (RegDerefPreindexReg base index add wback)) out.old (outcome result) out.new }
 {
     write_base(out, base)?;
     write_comma(out, add)?;

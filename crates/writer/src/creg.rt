@@ -33,7 +33,7 @@ fn creg_name(reg: CReg) -> &'static [u8]
 }
 
 pub(crate) fn write_creg<T: DisplaySink>(out: &mut T, reg: CReg) -> Result<(), Fault>
-    ensures { Printed meaning kept (spanned (codes "c" ++ decimal (creg_number reg))) out.old (outcome result) out.new }
+    ensures { Printed T.meaning T.kept (spanned (codes "c" ++ decimal (creg_number reg))) out.old (outcome result) out.new }
 {
     write_spanned(out, creg_name(reg))
 }

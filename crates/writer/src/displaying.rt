@@ -174,7 +174,7 @@ impl<T: DisplaySink> OperandVisitor for DisplayingOperandVisitor<'_, T> {
 
 // Writes the text of the operand, or refuses it before anything is written.
 pub fn write_operand<T: DisplaySink>(out: &mut T, operand: &Operand) -> Result<(), Fault>
-    ensures printed_or_refused { PrintedUnless meaning kept (operand_refused 0 operand.now) (operand_items operand.now) out.old (outcome result) out.new }
+    ensures printed_or_refused { PrintedUnless T.meaning T.kept (operand_refused 0 operand.now) (operand_items operand.now) out.old (outcome result) out.new }
 {
     let mut visitor = DisplayingOperandVisitor { f: out };
     visit(operand, &mut visitor)

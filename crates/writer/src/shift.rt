@@ -13,7 +13,7 @@ use text::{write_decimal, write_reg, write_text};
 
 // A number behind a word.
 fn write_counted<T: DisplaySink>(out: &mut T, word: &[u8], number: u8) -> Result<(), Fault>
-    ensures { Printed meaning kept (text_items (word.now ++ decimal number)) out.old (outcome result) out.new }
+    ensures { Printed T.meaning T.kept (text_items (word.now ++ decimal number)) out.old (outcome result) out.new }
 {
     write_text(out, word)?;
     write_decimal(out, number)
@@ -28,7 +28,7 @@ fn whole(amount: u8) -> u8
 
 // A shift by an amount: none shows nothing.
 fn write_amount<T: DisplaySink>(out: &mut T, stype: ShiftStyle, amount: u8) -> Result<(), Fault>
-    ensures { Printed meaning kept (text_items (amount_text stype amount)) out.old (outcome result) out.new }
+    ensures { Printed T.meaning T.kept (text_items (amount_text stype amount)) out.old (outcome result) out.new }
 {
     match stype {
         ShiftStyle::LSL => {
@@ -49,7 +49,7 @@ fn write_amount<T: DisplaySink>(out: &mut T, stype: ShiftStyle, amount: u8) -> R
 }
 
 fn write_by_amount<T: DisplaySink>(out: &mut T, shift: RegImmShift) -> Result<(), Fault>
-    ensures { Printed meaning kept (shift_items (RegImm shift)) out.old (outcome result) out.new }
+    ensures { Printed T.meaning T.kept (shift_items (RegImm shift)) out.old (outcome result) out.new }
 {
     write_reg(out, shift.shiftee)?;
     write_amount(out, shift.stype, shift.imm)
@@ -57,7 +57,7 @@ fn write_by_amount<T: DisplaySink>(out: &mut T, shift: RegImmShift) -> Result<()
 
 // The word of a shift by a register, with what stands around it.
 fn write_style<T: DisplaySink>(out: &mut T, stype: ShiftStyle) -> Result<(), Fault>
-    ensures { Printed meaning kept (text_items (codes ", " ++ (style_name stype ++ codes " "))) out.old (outcome result) out.new }
+    ensures { Printed T.meaning T.kept (text_items (codes ", " ++ (style_name stype ++ codes " "))) out.old (outcome result) out.new }
 {
     match stype {
         ShiftStyle::LSL => write_text(out, b", lsl "),
@@ -68,7 +68,7 @@ fn write_style<T: DisplaySink>(out: &mut T, stype: ShiftStyle) -> Result<(), Fau
 }
 
 fn write_by_reg<T: DisplaySink>(out: &mut T, shift: RegRegShift) -> Result<(), Fault>
-    ensures { Printed meaning kept (shift_items (RegReg shift)) out.old (outcome result) out.new }
+    ensures { Printed T.meaning T.kept (shift_items (RegReg shift)) out.old (outcome result) out.new }
 {
     write_reg(out, shift.shiftee)?;
     write_style(out, shift.stype)?;
@@ -76,7 +76,7 @@ fn write_by_reg<T: DisplaySink>(out: &mut T, shift: RegRegShift) -> Result<(), F
 }
 
 pub(crate) fn write_shift<T: DisplaySink>(out: &mut T, shift: RegShift) -> Result<(), Fault>
-    ensures { Printed meaning kept (shift_items (shift_fields (shift_word shift))) out.old (outcome result) out.new }
+    ensures { Printed T.meaning T.kept (shift_items (shift_fields (shift_word shift))) out.old (outcome result) out.new }
 {
     match shift.into_shift() {
         RegShiftStyle::RegImm(by) => write_by_amount(out, by),
