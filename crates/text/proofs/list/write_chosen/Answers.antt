@@ -6,7 +6,7 @@ use Rattle.visitor.specs.Texts.{all_regs}
 use Rattle.text.proofs.Chosen.{ahead, next_items, set_here, clear_here, none_ahead}
 use Rattle.visitor.proofs.Pieces.{renamed}
 use Rattle.text.proofs.list.write_chosen.Goals as goal
-use Rattle.text.proofs.list.write_chosen.Goals.{then-rest-eq1+in-ok-write-next, else-rest-eq1}
+use Rattle.text.proofs.list.write_chosen.Goals.{then-rest-eq1+in_ok-write_next, else-rest-eq1}
 
 pub loop-i-init : goal.loop-i-init
 loop-i-init g c = ([], nothing g.T.DisplaySink.laws c.args.out.now, refl)
@@ -14,7 +14,7 @@ loop-i-init g c = ([], nothing g.T.DisplaySink.laws c.args.out.now, refl)
 pub loop-i-preserved : goal.loop-i-preserved
 loop-i-preserved g c =
     elim c.if-rest-eq1.branch [
-      | then-rest-eq1+in-ok-write-next w ↦ (
+      | then-rest-eq1+in_ok-write_next w ↦ (
         c.loop-i.invariant.0 ++ next_items c.loop-i.first (get_or all_regs c.loop-i.i R0),
         subst (λ t. Printed g.T.DisplaySink.meaning g.T.DisplaySink.kept (c.loop-i.invariant.0 ++ next_items c.loop-i.first (get_or all_regs c.loop-i.i R0)) c.args.out.now None t) (sym w.out-is) (both g.T.DisplaySink.laws c.loop-i.invariant.0 (next_items c.loop-i.first (get_or all_regs c.loop-i.i R0)) c.loop-i.invariant.1 w.in_ok-write_next.ensures),
         ap (λ f. (c.loop-i.invariant.0 ++ next_items c.loop-i.first (get_or all_regs c.loop-i.i R0)) ++ ahead f (drop (c.loop-i.i + 1) all_regs) (c.loop-i.rest / 2)) w.first-is
