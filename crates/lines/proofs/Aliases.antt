@@ -1,5 +1,5 @@
 -- The forms that are printed under another name, as the code finds them. Assumes nothing.
-use Rattle.std.proofs.Common.{◌≡◌, ℕ, Bool, true, false, cond, not, ◌&&◌, eqb, List, [], ◌∷◌, ◌++◌, Some, None, codes, Option, refl, arith}
+use Rattle.std.proofs.Common.{◌≡◌, Bool, true, false, cond, not, ◌&&◌, eqb, Some, None, codes, Option, refl}
 use Rattle.armv7.specs.declared.instruction.Instruction.{Instruction}
 use Rattle.armv7.specs.declared.reg.Reg.{Reg}
 use Rattle.visitor.specs.Shapes.{Shape, no_more, if_one, if_post, if_pre, one, base, list, post, pre, imm12, imm32, nothing, other}

@@ -3,7 +3,7 @@ use Rattle.std.specs.Prelude.{ℕ, suc, cond, ◌&&◌, List, [], ◌∷◌, ◌
 use Rattle.armv7.specs.declared.instruction.Instruction.{Instruction}
 use Rattle.armv7.specs.declared.operand.Operand.{Operand}
 use Rattle.armv7.specs.Faults.{Refusal, refused_with, no_operand}
-use Rattle.opcode.specs.Forms.{Suffixes, Form, form, block, load_one, store_one, pop, push, it, cps, setend, coprocessor, plain}
+use Rattle.opcode.specs.Forms.{Form, form, block, load_one, store_one, pop, push, it, cps, setend, coprocessor, plain}
 use Rattle.visitor.specs.Operands.{operand_refused}
 use Rattle.visitor.specs.Shapes.{Shape, shape, no_more, if_base, if_list, if_imm12, if_imm32}
 use Rattle.lines.specs.Lines.{operand, shape_at, four}

@@ -17,16 +17,16 @@ returns-in-Cps c = record { refusal = refused_at c.args.instruction.now _ c.in-C
 pub returns-in-Setend : goal.returns-in-Setend
 returns-in-Setend c = record { refusal = refused_at c.args.instruction.now _ c.in-Setend.ensures.form c.admit_setend.ensures }
 
-pub returns-in_err-admit_codes : goal.returns-in_err-admit_codes
-returns-in_err-admit_codes c =
+pub returns-in_err-admit_codes-in-Coprocessor : goal.returns-in_err-admit_codes-in-Coprocessor
+returns-in_err-admit_codes-in-Coprocessor c =
     let rest = reached_refused 0 (four c.args.instruction.now) in
-    let told = broke c.from_residual.result c.in_err-admit_codes.field-0.0 c.from_residual.ensures.1 ∙ ap (λ o. first_of o rest) c.in_err-admit_codes.ensures in
+    let told = broke c.from_residual.result c.in_err-admit_codes-in-Coprocessor.field-0.0 c.from_residual.ensures.1 ∙ ap (λ o. first_of o rest) c.in_err-admit_codes-in-Coprocessor.ensures in
     record { refusal = refused_at c.args.instruction.now _ c.in-Coprocessor.ensures.form told }
 
-pub returns-in_ok-admit_codes : goal.returns-in_ok-admit_codes
-returns-in_ok-admit_codes c =
+pub returns-in_ok-admit_codes-in-Coprocessor : goal.returns-in_ok-admit_codes-in-Coprocessor
+returns-in_ok-admit_codes-in-Coprocessor c =
     let rest = reached_refused 0 (four c.args.instruction.now) in
-    let told = c.admit_reached.ensures ∙ ap (λ o. first_of o rest) c.in_ok-admit_codes.ensures in
+    let told = c.admit_reached.ensures ∙ ap (λ o. first_of o rest) c.in_ok-admit_codes-in-Coprocessor.ensures in
     record { refusal = refused_at c.args.instruction.now _ c.in-Coprocessor.ensures.form told }
 
 pub returns-in-LoadOne : goal.returns-in-LoadOne
