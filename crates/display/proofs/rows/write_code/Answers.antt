@@ -7,9 +7,6 @@ use Rattle.visitor.proofs.Pieces.{renamed}
 use Rattle.lines.specs.Lines.{code_row}
 use Rattle.display.proofs.rows.write_code.Goals as goal
 
-pub returns-in-default : goal.returns-in-default
-returns-in-default g c = renamed (ap (λ o. followed (map code_row (optional o))) (sym c.in-default.is)) (nothing g.T.DisplaySink.laws c.args.out.now)
-
 pub returns-in_err-write_text : goal.returns-in_err-write_text
 returns-in_err-write_text g c =
     renamed (ap (λ o. followed (map code_row (optional o))) (sym c.in-Some.is))

@@ -10,23 +10,23 @@ pub returns-then-is_always : goal.returns-then-is_always
 returns-then-is_always g c =
     renamed (ap (λ b. text_items (cond b [] (condition_name c.args.condition))) c.if-is_always.ensures) (nothing g.T.DisplaySink.laws c.args.out.now)
 
-pub slice-bounds-write_text-count : goal.slice-bounds-write_text-count
-slice-bounds-write_text-count g c = omega (arith, c.name-name.ensures.size)
+pub slice_bounds-write_text-count : goal.slice_bounds-write_text-count
+slice_bounds-write_text-count g c = omega (arith, c.name-name.ensures.size)
 
-pub slice-bounds-write_text-start : goal.slice-bounds-write_text-start
-slice-bounds-write_text-start g c = omega (arith, c.name-name.ensures.size)
+pub slice_bounds-write_text-start : goal.slice_bounds-write_text-start
+slice_bounds-write_text-start g c = omega (arith, c.name-name.ensures.size)
 
-pub slice-bounds-write_text-end : goal.slice-bounds-write_text-end
-slice-bounds-write_text-end g c = omega (arith, c.name-name.ensures.size)
+pub slice_bounds-write_text-end : goal.slice_bounds-write_text-end
+slice_bounds-write_text-end g c = omega (arith, c.name-name.ensures.size)
 
-pub slice-bounds-write_text-count-2 : goal.slice-bounds-write_text-count-2
-slice-bounds-write_text-count-2 g c = omega (arith, c.name-name.ensures.size)
+pub slice_bounds-write_text-count-2 : goal.slice_bounds-write_text-count-2
+slice_bounds-write_text-count-2 g c = omega (arith, c.name-name.ensures.size)
 
-pub slice-bounds-write_text-start-2 : goal.slice-bounds-write_text-start-2
-slice-bounds-write_text-start-2 g c = omega (arith, c.name-name.ensures.size)
+pub slice_bounds-write_text-start-2 : goal.slice_bounds-write_text-start-2
+slice_bounds-write_text-start-2 g c = omega (arith, c.name-name.ensures.size)
 
-pub slice-bounds-write_text-end-2 : goal.slice-bounds-write_text-end-2
-slice-bounds-write_text-end-2 g c = omega (arith, c.name-name.ensures.size)
+pub slice_bounds-write_text-end-2 : goal.slice_bounds-write_text-end-2
+slice_bounds-write_text-end-2 g c = omega (arith, c.name-name.ensures.size)
 
 pub returns-in_err-write_text : goal.returns-in_err-write_text
 returns-in_err-write_text g c =
