@@ -15,7 +15,7 @@ use Rattle.visitor.specs.Operands.{operand_items, bang}
 use Rattle.visitor.specs.Texts.{flagged, reg_items, list_items}
 use Rattle.lines.specs.Admission.{refused, refused_by, block_shape, reached_refused}
 use Rattle.lines.specs.Lines.{own_parts, one_parts, block_parts, parts_by, line, suffix, reached, four, operand, shape_at, at_sp, stack_direction, stack_name as own_stack_name}
-use Rattle.blocks.specs.Grammar.{optional, letters, word, name_letters, transfer, stack_name, transfer_line, stack_line, Listed}
+use Rattle.blocks.specs.Grammar.{optional, letters, name_letters, transfer, stack_name, transfer_line, stack_line, Listed}
 use Rattle.blocks.specs.Sheets.{sheet_with, low, one_sheet, block_sheet, list_sheet, sheet_by, sheet_of, OwnSheets}
 use Rattle.blocks.proofs.Exact.{Exactly, exactly_one, apart_none, either}
 use Rattle.blocks.proofs.Opcodes.{said, own_name, apart, apart_by, others_apart}

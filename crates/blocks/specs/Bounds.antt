@@ -18,8 +18,8 @@ pub data Nested : List Item → Type 0 where
 abbrev pub OneLine : List ℕ → Type 0
 OneLine = All (λ b. b ≢ 10)
 
-pub record Bounded (size-limit mark_limit : ℕ) (row : List Item) : Type 0 where
-  pub size : length (bytes row) ≤ size-limit
+pub record Bounded (size_limit mark_limit : ℕ) (row : List Item) : Type 0 where
+  pub size : length (bytes row) ≤ size_limit
   pub marks : length (marks_from 0 row) ≤ mark_limit
   pub one_line : OneLine (bytes row)
   pub nested : Nested row

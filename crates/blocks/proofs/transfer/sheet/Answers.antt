@@ -38,7 +38,7 @@ returns-in-PUSH c =
     let i = c.args.instruction.now in
     answered_by i PUSH (λ f s. list_sheet false f s i) refl c.in-PUSH.is c.operand_at-first.ensures c.operand_at-second.ensures c.list-in-PUSH.ensures
 
-pub returns-in-default : goal.returns-in-default
-returns-in-default c =
-    let o = c.in-default in
+pub returns-in_default : goal.returns-in_default
+returns-in_default c =
+    let o = c.in_default in
     answered_none c.args.instruction.now o.not-POP o.not-PUSH o.not-LDM o.not-STM o.not-LDR o.not-STR
