@@ -3,10 +3,7 @@ use Rattle.std.proofs.Common.{◌≡◌, ℕ, ◌+◌, ◌-◌, ◌*◌, ◌/◌
 use lib.Arith.{digits_div}
 use borrow.Author.Tests.{both_ways}
 use Rattle.armv7.specs.declared.shift.RegShift.{RegShift}
-use Rattle.armv7.specs.declared.shift.RegShiftStyle.{RegShiftStyle}
-use Rattle.armv7.specs.declared.shift.RegShiftStyle.TheVariants.{RegImm, RegReg}
-use Rattle.armv7.specs.Registers.{reg_at}
-use Rattle.armv7.specs.Shifts.{bit, shift_word, shift_fields, style_at}
+use Rattle.armv7.specs.Shifts.{bit, shift_word, shift_fields}
 
 record SameFields (v w : ℕ) : Type 0 where
   shiftee : v % 16 ≡ w % 16

@@ -1,14 +1,14 @@
 -- Calls on a sink, one after the other: what was printed whole can be followed, and what stopped stays stopped.
 -- Assumes nothing.
-use Rattle.std.proofs.Common.{◌≡◌, ℕ, zero, suc, ◌+◌, ◌-◌, ◌<◌, ◌≤◌, Bool, true, false, cond, ltb, List, [], ◌∷◌, ◌++◌, length, take, IsErrAnd, Some, None, Ok, Err, Option, Result, sym, refl, ap, ◌∙◌, subst, ap₂, append_assoc, append-nil, not-suc-le-zero, arith, length-append, take_all, ltb-false, ltb-true, le-ltb, lt-ltb}
+use Rattle.std.proofs.Common.{◌≡◌, ℕ, ◌+◌, ◌-◌, ◌<◌, ◌≤◌, Bool, true, false, cond, ltb, List, [], ◌∷◌, ◌++◌, length, take, IsErrAnd, Some, None, Ok, Err, Option, Result, sym, refl, ap, ◌∙◌, subst, ap₂, append_assoc, append-nil, arith, length-append, take_all, ltb-false, ltb-true, le-ltb, lt-ltb}
 use lib.Seq.{take-append-add}
 use Rattle.armv7.specs.declared.fault.Fault.{Fault}
 use Rattle.armv7.specs.Faults.{Refusal, refusal, refused_with, no_operand}
 use Rattle.sink.specs.declared.sink.Edge.{Edge}
 use Rattle.sink.specs.declared.sink.Mark.{Mark}
 use Rattle.sink.specs.declared.sink.Span.{Span}
-use Rattle.sink.specs.Items.{Item, byte, edge, text_items, bytes, marks_from, fitting}
-use Rattle.sink.specs.Meaning.{Meaning, Sound, Laws, room, appended, marked}
+use Rattle.sink.specs.Items.{Item, edge, text_items, bytes, marks_from, fitting}
+use Rattle.sink.specs.Meaning.{Meaning, Laws, room, appended, marked}
 use Rattle.sink.specs.Outcome.{outcome, full_below}
 use Rattle.sink.specs.Printed.{taken, handed, Printed}
 use Rattle.sink.proofs.Lents.{one_more}

@@ -1,6 +1,5 @@
 -- Rows of items, one after the other: their bytes, their marks, and how much of them fits. Assumes nothing.
-use Rattle.std.proofs.Common.{◌≡◌, ℕ, zero, suc, ◌+◌, ◌-◌, ◌<◌, ◌≤◌, List, [], ◌∷◌, ◌++◌, length, take, sym, refl, ap, ◌∙◌, ap₂, append_assoc, append-nil, le_of_suc-le-suc, not-suc-le-zero, arith, length-append, take_all}
-use Rattle.sink.specs.declared.sink.Mark.{Mark}
+use Rattle.std.proofs.Common.{◌≡◌, ℕ, zero, suc, ◌+◌, ◌-◌, ◌<◌, ◌≤◌, List, [], ◌∷◌, ◌++◌, length, take, sym, refl, ap, ◌∙◌, append-nil, le_of_suc-le-suc, not-suc-le-zero, arith, length-append}
 use Rattle.sink.specs.Items.{Item, byte, edge, text_items, bytes, marks_from, fitting}
 
 pub bytes_append : (a b : List Item) → bytes (a ++ b) ≡ bytes a ++ bytes b

@@ -1,6 +1,6 @@
 -- Lent memory: what a sink on it holds, and what of it stays. Assumes nothing.
 use Rattle.std.specs.Prelude.{◌≡◌, ℕ, ◌+◌, ◌-◌, ◌^◌, ◌<◌, ◌≤◌, min, List, ◌++◌, length, take, drop, refl}
-use Rattle.std.proofs.Common.{⊎_elim, sym, ap, ◌∙◌, arith, length-take, length-drop, drop-drop}
+use Rattle.std.proofs.Common.{⊎_elim, sym, ap, ◌∙◌, arith, length-take, drop-drop}
 use Rattle.std.proofs.lemmas.Bool.{cases_lt}
 use Rattle.std.proofs.lemmas.List.{drop_all}
 

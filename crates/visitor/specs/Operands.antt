@@ -1,5 +1,5 @@
 -- The text of each operand, and which operands have none. Assumes nothing.
-use Rattle.std.specs.Prelude.{ℕ, Bool, true, false, cond, not, List, [], ◌++◌, ℤ, pos, negsuc, Some, None, codes, Option, ◌==◌, nat_lt}
+use Rattle.std.specs.Prelude.{ℕ, Bool, cond, not, List, [], ◌++◌, ℤ, pos, negsuc, Some, None, codes, Option, ◌==◌, nat_lt}
 use Rattle.armv7.specs.declared.operand.Operand.{Operand}
 use Rattle.armv7.specs.declared.operand.Operand.TheVariants.{Reg as One, RegWBack, RegList, RegDeref, RegShift as Shifted, RegDerefPostindexRegShift, RegDerefPreindexRegShift, RegDerefPostindexOffset, RegDerefPreindexOffset, RegDerefPostindexReg, RegDerefPreindexReg, Imm12, Imm32, BranchOffset, BranchThumbOffset, Coprocessor, CoprocOption, CReg as Control, BankedReg, BankedSPSR, StatusRegMask as Fields, APSR, SPSR, CPSR, Nothing}
 use Rattle.armv7.specs.Banks.{bank_name}

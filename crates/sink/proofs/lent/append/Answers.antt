@@ -1,4 +1,4 @@
-use Rattle.std.proofs.Common.{◌≡◌, ◌+◌, ◌-◌, length, take, sym, ap, ◌∙◌, arith, length-take-le}
+use Rattle.std.proofs.Common.{◌≡◌, ◌+◌, ◌-◌, length, take, ap, ◌∙◌, arith, length-take-le}
 use Rattle.sink.proofs.Lents.{part_spliced}
 use Rattle.sink.proofs.lent.append.Goals as goal
 

@@ -1,4 +1,4 @@
-use Rattle.std.proofs.Common.{eqb, sym, ◌∙◌, arith, eq-eqb}
+use Rattle.std.proofs.Common.{arith}
 use Rattle.std.proofs.lemmas.Bool.Decides.{nat_tests}
 use Rattle.armv7.proofs.Words.{fields_kept}
 use Rattle.armv7.proofs.shift.RegShift.into_shift.Goals as goal
