@@ -1,5 +1,5 @@
 -- Operands that are written one after the other, each behind a comma. Assumes nothing.
-use Rattle.std.proofs.Common.{◌≡◌, ℕ, zero, suc, ◌+◌, ◌<◌, ◌≤◌, Bool, true, false, cond, List, [], ◌∷◌, ◌++◌, map, length, get_or, take, drop, IsErrAnd, Some, None, codes, Option, Result, sym, refl, ap, ◌∙◌, subst, append_assoc, append-nil, add-one, arith, drop-cons}
+use Rattle.std.proofs.Common.{◌≡◌, ℕ, suc, ◌+◌, ◌<◌, ◌≤◌, Bool, true, false, cond, List, [], ◌∷◌, ◌++◌, map, length, get_or, take, drop, IsErrAnd, Some, None, codes, Option, Result, sym, refl, ap, ◌∙◌, subst, append_assoc, append-nil, add-one, arith, drop-cons}
 use mathlib.Core.List.{map-append}
 use Rattle.std.proofs.lemmas.List.{take_more, drop_all}
 use Rattle.armv7.specs.declared.fault.Fault.{Fault}

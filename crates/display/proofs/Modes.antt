@@ -1,5 +1,5 @@
 -- The rows of a CPS, as they are written. Assumes nothing.
-use Rattle.std.proofs.Common.{◌≡◌, ℕ, Bool, true, false, cond, List, [], ◌∷◌, ◌++◌, Some, None, codes, Option, sym, refl, ap, ◌∙◌, append_assoc, append-nil}
+use Rattle.std.proofs.Common.{◌≡◌, ℕ, Bool, true, false, cond, List, [], ◌∷◌, ◌++◌, Some, None, codes, Option, sym, refl, ap, ◌∙◌, append-nil}
 use Rattle.sink.specs.Items.{Item, text_items}
 use Rattle.visitor.specs.Texts.{prefixed}
 use Rattle.lines.specs.Codes.{mode_rows}

@@ -1,5 +1,5 @@
 -- The lines of each kind, as the code writes them. Assumes nothing.
-use Rattle.std.proofs.Common.{◌≡◌, ℕ, Bool, List, [], ◌∷◌, ◌++◌, map, Some, None, codes, Option, sym, refl, ap, ◌∙◌, ap₂, append-nil}
+use Rattle.std.proofs.Common.{◌≡◌, ℕ, Bool, List, [], ◌∷◌, ◌++◌, map, codes, sym, refl, ap, ◌∙◌, append-nil}
 use Rattle.armv7.specs.Conditions.{condition_name}
 use Rattle.armv7.specs.declared.instruction.Instruction.{Instruction}
 use Rattle.armv7.specs.declared.reg.Reg.{Reg}
@@ -10,10 +10,10 @@ use Rattle.kind.specs.declared.Transfer.{Transfer}
 use Rattle.kind.specs.Kinds.{optional, suffixes_of}
 use Rattle.sink.specs.Items.{Item, text_items}
 use Rattle.visitor.specs.Operands.{operand_items}
-use Rattle.visitor.specs.Shapes.{Shape, shape, if_base, if_list, if_imm12, if_imm32, one, base, list, post, pre, imm12, imm32, nothing, other}
+use Rattle.visitor.specs.Shapes.{Shape, if_base, if_list, if_imm12, if_imm32, one, base, list, post, pre, imm12, imm32, nothing, other}
 use Rattle.visitor.specs.Texts.{prefixed}
 use Rattle.lines.specs.Codes.{shown_s, condition_shown, transfer_parts, mode_of, mode_rows}
-use Rattle.lines.specs.Lines.{Parts, operand, shape_at, four, reached, suffix, suffix_of, suffixed, condition_suffix, own_parts, it_parts, cps_parts, setend_parts, flag_row, setend_text, it_letters, condition_at, code_row, code_rows, block_parts, coprocessor_parts}
+use Rattle.lines.specs.Lines.{Parts, shape_at, four, reached, suffix, suffix_of, suffixed, condition_suffix, own_parts, it_parts, cps_parts, setend_parts, flag_row, setend_text, it_letters, condition_at, code_row, code_rows, block_parts, coprocessor_parts}
 
 -- a block transfer, by its base and its list
 pub transfer_line : (t : Transfer) (i : Instruction) (b : Reg) (w : Bool) (mask : ℕ) → shape_at 0 i ≡ base b w → shape_at 1 i ≡ list mask → transfer_parts t i b w mask ≡ block_parts t.load t.add t.pre t.wback t.user i

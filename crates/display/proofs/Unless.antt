@@ -1,5 +1,5 @@
 -- A print that may be refused before anything is written. Assumes nothing.
-use Rattle.std.proofs.Common.{◌≡◌, List, Some, None, Option, refl, subst}
+use Rattle.std.proofs.Common.{◌≡◌, List, Some, None, Option, subst}
 use Rattle.armv7.specs.Faults.{Refusal}
 use Rattle.sink.specs.Items.{Item}
 use Rattle.sink.specs.Meaning.{Meaning}

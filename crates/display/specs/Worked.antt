@@ -1,5 +1,5 @@
 -- Worked lines. Assumes nothing.
-use Rattle.std.specs.Prelude.{◌≡◌, ℕ, Bool, true, false, List, [], ◌∷◌, length, ℤ, pos, negsuc, Some, None, codes, Option}
+use Rattle.std.specs.Prelude.{◌≡◌, ℕ, true, false, List, [], ◌∷◌, length, ℤ, pos, negsuc, Some, None, codes}
 use Rattle.armv7.specs.declared.condition.ConditionCode.{ConditionCode}
 use Rattle.armv7.specs.declared.condition.ConditionCode.TheVariants.{EQ, AL}
 use Rattle.armv7.specs.declared.creg.CReg.TheVariants.{C1, C2}

@@ -1,4 +1,4 @@
-use Rattle.std.proofs.Common.{◌++◌, sym, ap, ◌∙◌}
+use Rattle.std.proofs.Common.{◌++◌, ap}
 use Rattle.sink.proofs.Chain.{both, stop}
 use Rattle.visitor.specs.Shapes.{shape}
 use Rattle.visitor.proofs.Pieces.{renamed}

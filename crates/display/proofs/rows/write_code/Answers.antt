@@ -1,7 +1,7 @@
 use Rattle.std.proofs.Common.{map, codes, sym, ap, append-nil}
 use Rattle.kind.specs.Kinds.{optional}
 use Rattle.sink.specs.Items.{text_items}
-use Rattle.sink.proofs.Chain.{both, stop, nothing}
+use Rattle.sink.proofs.Chain.{both, stop}
 use Rattle.visitor.specs.Texts.{followed, decimal}
 use Rattle.visitor.proofs.Pieces.{renamed}
 use Rattle.lines.specs.Lines.{code_row}

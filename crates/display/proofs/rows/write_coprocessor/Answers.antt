@@ -1,4 +1,4 @@
-use Rattle.std.proofs.Common.{◌≡◌, ℕ, List, [], ◌∷◌, ◌++◌, map, codes, sym, ap, ◌∙◌, append_assoc}
+use Rattle.std.proofs.Common.{◌≡◌, ℕ, List, ◌∷◌, ◌++◌, map, codes, sym, ap, ◌∙◌, append_assoc}
 use Rattle.kind.specs.Kinds.{optional}
 use Rattle.sink.specs.Items.{Item, text_items}
 use Rattle.sink.proofs.Chain.{both, stop}

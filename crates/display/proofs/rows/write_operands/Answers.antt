@@ -1,10 +1,8 @@
-use Rattle.std.proofs.Common.{◌≡◌, Bool, false, cond, List, [], ◌∷◌, ◌++◌, map, codes, sym, ap}
+use Rattle.std.proofs.Common.{Bool, cond, List, [], ◌∷◌, map, codes, ap}
 use Rattle.armv7.specs.declared.operand.Operand.{Operand}
 use Rattle.sink.specs.Items.{Item, text_items}
 use Rattle.sink.proofs.Chain.{both, stop, nothing}
 use Rattle.visitor.specs.Operands.{operand_items}
-use Rattle.visitor.specs.Shapes.{shape, no_more}
-use Rattle.visitor.specs.Texts.{followed}
 use Rattle.visitor.proofs.Pieces.{renamed}
 use Rattle.lines.specs.Lines.{reached, behind_word}
 use Rattle.display.proofs.Followed.{first_clean, printed_at}

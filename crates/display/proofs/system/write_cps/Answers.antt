@@ -1,6 +1,6 @@
-use Rattle.std.proofs.Common.{cond, eqb, [], ◌++◌, codes, ap, ◌∙◌}
+use Rattle.std.proofs.Common.{cond, eqb, [], ◌++◌, codes, ap}
 use Rattle.sink.specs.Items.{text_items}
-use Rattle.sink.proofs.Chain.{both, stop, nothing}
+use Rattle.sink.proofs.Chain.{both, stop}
 use Rattle.visitor.specs.Shapes.{shape}
 use Rattle.visitor.proofs.Pieces.{renamed}
 use Rattle.lines.specs.Codes.{mode_of}

@@ -1,4 +1,4 @@
-use Rattle.std.proofs.Common.{cond, eqb, [], ◌++◌, codes, sym, ap, eq-eqb, ne_eqb}
+use Rattle.std.proofs.Common.{cond, [], ◌++◌, codes, sym, ap, eq-eqb, ne_eqb}
 use Rattle.sink.specs.Items.{text_items}
 use Rattle.sink.proofs.Chain.{both, nothing}
 use Rattle.visitor.proofs.Pieces.{renamed}

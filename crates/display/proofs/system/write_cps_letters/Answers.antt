@@ -1,4 +1,4 @@
-use Rattle.std.proofs.Common.{◌/◌, ◌%◌, eqb, codes, ap}
+use Rattle.std.proofs.Common.{◌/◌, ◌%◌, eqb, codes}
 use Rattle.visitor.specs.Texts.{flagged}
 use Rattle.visitor.proofs.Pieces.{texts, text_stop}
 use Rattle.display.proofs.system.write_cps_letters.Goals as goal

@@ -1,4 +1,4 @@
-use Rattle.std.proofs.Common.{length, sym, ap}
+use Rattle.std.proofs.Common.{sym, ap}
 use Rattle.sink.specs.Items.{text_items}
 use Rattle.sink.proofs.Chain.{nothing}
 use Rattle.visitor.specs.Texts.{flagged}

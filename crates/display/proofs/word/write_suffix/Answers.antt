@@ -1,4 +1,4 @@
-use Rattle.std.proofs.Common.{◌++◌, codes}
+use Rattle.std.proofs.Common.{codes}
 use Rattle.visitor.specs.Texts.{flagged}
 use Rattle.visitor.proofs.Pieces.{texts, text_stop}
 use Rattle.lines.specs.Lines.{condition_suffix}
