@@ -1,5 +1,5 @@
 -- What a function promises where a `?` leaves it. Assumes nothing.
-use Rattle.std.proofs.Common.{◌≡◌, IsErrAnd, Ok, Err, Result, sym, subst}
+use Rattle.std.proofs.Common.{◌≡◌, IsErrAnd, Err, Result, sym, subst}
 use Rattle.std.proofs.lemmas.Result.{err_from_is_err_and}
 use Rattle.record.specs.declared.cursor.Cursor.{Cursor}
 use Rattle.record.specs.declared.misread.Slip.{Slip}

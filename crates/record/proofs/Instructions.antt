@@ -1,14 +1,12 @@
 -- Instructions are read as they are written. Assumes nothing.
-use Rattle.std.proofs.Common.{◌≡◌, ℕ, zero, suc, Bool, List, [], ◌∷◌, ◌++◌, map, length, Some, None, codes, sym, refl, ap, ◌∙◌, subst, append_assoc, arith}
-use Rattle.armv7.specs.declared.condition.ConditionCode.{ConditionCode}
+use Rattle.std.proofs.Common.{◌≡◌, Bool, List, [], ◌∷◌, ◌++◌, map, length, Some, codes, sym, refl, ap, ◌∙◌, subst, append_assoc, arith}
 use Rattle.armv7.specs.declared.instruction.Instruction.{Instruction}
 use Rattle.armv7.specs.declared.operand.Operand.{Operand}
-use Rattle.opcode.specs.declared.Opcode.{Opcode}
 use Rattle.record.specs.declared.given.Given.TheVariants.{Condition, Opcode as OpcodeField, Operands, S, Wide, ThumbW, Thumb, OpenBrace, CloseBrace, OpenBracket, CloseBracket, Comma, Colon}
 use Rattle.record.specs.Instructions.{operands, widths, Fields, fields, from_fields, instruction, settled_instruction}
 use Rattle.record.specs.Notation.{condition_word, flag_word, AllHeld}
 use Rattle.record.specs.Operands.{settled_operand}
-use Rattle.record.specs.Parsing.{Tokens, then, via}
+use Rattle.record.specs.Parsing.{Tokens, then}
 use Rattle.record.specs.Tokens.{others}
 use Rattle.record.specs.Written.{opcode_variant, operand_variant, opcode_written, operand_written, operands_written, written, OperandsHeld, CanBe}
 use Rattle.record.proofs.Faithful.{Faithful, pair_faithful, after_faithful, before_faithful, both_faithful, rewritten, via_sound}

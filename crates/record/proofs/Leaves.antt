@@ -1,5 +1,5 @@
 -- The parts of an instruction are read as they are written. Assumes nothing.
-use Rattle.std.proofs.Common.{◌≡◌, ℕ, zero, suc, ◌+◌, ◌-◌, ◌/◌, ◌%◌, ◌^◌, ◌<◌, ◌≤◌, Bool, true, false, cond, not, ◌&&◌, eqb, leb, List, [], ◌∷◌, ◌++◌, length, ℤ, pos, negsuc, Some, None, codes, decimal, Option, sym, refl, ap, ◌∙◌, subst, ⊎_elim, add-zero, add-suc, arith, rules}
+use Rattle.std.proofs.Common.{◌≡◌, ℕ, zero, suc, ◌+◌, ◌-◌, ◌%◌, ◌^◌, ◌<◌, ◌≤◌, Bool, true, false, cond, not, ◌&&◌, eqb, leb, List, [], ◌∷◌, ◌++◌, length, ℤ, pos, negsuc, Some, None, codes, decimal, sym, refl, ap, ◌∙◌, subst, ⊎_elim, add-zero, arith}
 use Rattle.armv7.specs.Registers.{reg_number, creg_number}
 use Rattle.armv7.specs.Shifts.{bit, shift_word}
 use Rattle.armv7.specs.declared.bank.Bank.{Bank}
@@ -15,16 +15,16 @@ use Rattle.armv7.specs.declared.status.StatusRegMask.{StatusRegMask}
 use Rattle.armv7.specs.declared.status.StatusRegMask.TheVariants.{CPSR_C, CPSR_X, CPSR_XC, APSR_G, CPSR_SC, CPSR_SX, CPSR_SXC, APSR_NZCVQ, CPSR_FC, CPSR_FX, CPSR_FXC, APSR_NZCVQG, CPSR_FSC, CPSR_FSX, CPSR_FSXC, SPSR, SPSR_C, SPSR_X, SPSR_XC, SPSR_S, SPSR_SC, SPSR_SX, SPSR_SXC, SPSR_F, SPSR_FC, SPSR_FX, SPSR_FXC, SPSR_FS, SPSR_FSC, SPSR_FSX, SPSR_FSXC}
 use Rattle.std.proofs.lemmas.Fmt.{decimal_is_IsNumeral, decimal_nonempty}
 use Rattle.std.proofs.lemmas.Slice.Eq.{bytes_eq-Decides}
-use Rattle.std.proofs.lemmas.Bool.{cond-true, cond-false, cases_Bool, and_parts, and_from, and_left, leb-true, le-leb, eqb-true, eqb-false, not-true, not_from_false, both_ways}
+use Rattle.std.proofs.lemmas.Bool.{cond-true, cond-false, cases_Bool, and_parts, and_from, leb-true, le-leb, eqb-true, not-true}
 use Rattle.std.specs.Str.Parse.{digits_value, AllDigits}
 use Rattle.std.specs.Str.{bytes_eq}
 use Rattle.record.specs.declared.given.Given.TheVariants.{Reg as RegName, CReg as CRegName, RegShift as RegShiftName, Bits, Data, OpenBrace, CloseBrace, Colon}
 use Rattle.record.specs.Instructions.{conditions}
 use Rattle.record.specs.Notation.{condition_word, bank_word, mask_word, flag_word, in_braces, signed_tokens, a_distance, Held}
-use Rattle.record.specs.Parsing.{Tokens, Parser, then, row, chosen, numeral, number, braced, flag, meant, via}
+use Rattle.record.specs.Parsing.{Tokens, then, row, chosen, numeral, number, flag, meant, via}
 use Rattle.record.specs.Parts.{item, registers, register, controls, control, settled, shift_of, shift, banks, masks, negative, distance}
 use Rattle.record.specs.Tokens.{first, others}
-use Rattle.record.proofs.Faithful.{Faithful, then_some, some_is, some_pair, same_self, first_is, chosen_faithful, after_faithful, before_faithful, meant_faithful, via_sound}
+use Rattle.record.proofs.Faithful.{Faithful, then_some, some_is, some_pair, first_is, chosen_faithful, after_faithful, before_faithful, meant_faithful, via_sound}
 use Rattle.record.proofs.Numbers.{some_from}
 
 condition_solid : (x : ConditionCode) → 0 < length (condition_word x)

@@ -11,7 +11,7 @@ use Rattle.record.specs.declared.given.Given.TheVariants.{End}
 use Rattle.record.specs.Calls.{starts, whole, call_with, call, settled_call}
 use Rattle.record.specs.Instructions.{instruction, settled_instruction}
 use Rattle.record.specs.Law.{PassedOver, Says, CanCall}
-use Rattle.record.specs.Parsing.{Tokens, Table, then, row, chosen, given, before, via}
+use Rattle.record.specs.Parsing.{Tokens, Table, then, row, chosen, given}
 use Rattle.record.specs.Tokens.{blank, wordy, opens_wordy, put, tokens, first, others}
 use Rattle.record.specs.Written.{written, CanBe}
 use Rattle.record.proofs.Faithful.{then_some, some_is, some_pair, via_sound}

@@ -1,17 +1,16 @@
 -- Opcodes are read as they are written. Assumes nothing.
-use Rattle.std.proofs.Common.{◌≡◌, ℕ, ◌≤◌, Bool, true, false, ◌⊎◌, List, [], ◌∷◌, ◌++◌, map, Some, None, codes, decimal, Option, sym, refl, ap, ◌∙◌, inl, inr, ⊎_elim, arith}
+use Rattle.std.proofs.Common.{◌≡◌, ℕ, ◌≤◌, ◌⊎◌, List, [], ◌∷◌, ◌++◌, map, Some, None, codes, decimal, Option, refl, ap, ◌∙◌, inl, inr, ⊎_elim, arith}
 use Rattle.opcode.specs.declared.Opcode.{Opcode}
 use Rattle.opcode.specs.declared.Opcode.TheVariants.{Invalid, POP, PUSH, B, BL, BLX, BX, BXJ, AND, EOR, SUB, RSB, ADD, ADC, SBC, RSC, TST, TEQ, CMP, CMN, ORR, MOV, BIC, MVN, LSL, LSR, ASR, RRX, ROR, ADR, MSR, MRS, CLZ, LDREXH, STREXH, LDREXB, STREXB, LDREXD, STREXD, LDREX, STREX, LDM, STM, LDR, STR, LDRH, STRH, LDRB, STRB, LDRSH, LDRSHT, LDRSB, LDRSBT, STRD, LDRD, LDC, LDCL, LDC2, LDC2L, STC, STCL, STC2, STC2L, MCRR2, MCR2, MRRC2, MCRR, MRRC, MRC2, CDP2, SRS, RFE, LDRT, STRT, LDRHT, STRHT, LDRBT, STRBT, SWP, SWPB, MUL, MLA, UMAAL, MLS, UMULL, UMLAL, SMULL, SMUL, SMLA, SMLAL, SMLAL_halfword, SMAL, SMLAW, ERET, BKPT, HVC, SMC, MOVT, QDSUB, QDADD, QSUB, QADD, TBB, TBH, UDF, SVC, WFE, WFI, SEV, CSDB, YIELD, HINT, NOP, LEAVEX, ENTERX, CLREX, DSB, DMB, ISB, SXTH, UXTH, SXTB16, UXTB16, SXTB, UXTB, SXTAH, UXTAH, SXTAB16, UXTAB16, SXTAB, UXTAB, CBZ, CBNZ, SETEND, CPS, CPS_modeonly, REV, REV16, REVSH, IT, PKHTB, PKHBT, ORN, SSAT, SSAT16, SBFX, USAT, USAT16, UBFX, BFI, BFC, DBG, PLD, PLI, RBIT, SEL, SADD16, QADD16, SHADD16, SASX, QASX, SHASX, SSAX, QSAX, SHSAX, SSUB16, QSUB16, SHSUB16, SADD8, QADD8, SHADD8, SSUB8, QSUB8, SHSUB8, UADD16, UQADD16, UHADD16, UASX, UQASX, UHASX, USAX, UQSAX, UHSAX, USUB16, UQSUB16, UHSUB16, UADD8, UQADD8, UHADD8, USUB8, UQSUB8, UHSUB8, SMLSD, SMMLA, SMMLS, USADA8, USAD8, SMLAD, SMUSD, SMMUL, SMULW, SMUAD, SDIV, UDIV, SMLALD, SMLSLD}
-use Rattle.record.specs.declared.opcode.Flagged.{Flagged}
-use Rattle.record.specs.declared.opcode.Flagged.TheVariants.{Ldm, Stm, Srs, Rfe, Smul, Smla, SmlalHalfword, Smal, Smlaw, Cps, Smulw, Smlald, Smlsld}
-use Rattle.record.specs.declared.opcode.Coprocessor.{Coprocessor}
-use Rattle.record.specs.declared.opcode.Coprocessor.TheVariants.{Ldc, Ldcl, Ldc2, Ldc2l, Stc, Stcl, Stc2, Stc2l, Mcrr2, Mcr2, Mrrc2, Mcrr, Mrrc, Mrc2, Cdp2}
+use Rattle.record.specs.declared.mnemonic.Flagged.{Flagged}
+use Rattle.record.specs.declared.mnemonic.Flagged.TheVariants.{Ldm, Stm, Srs, Rfe, Smul, Smla, SmlalHalfword, Smal, Smlaw, Cps, Smulw, Smlald, Smlsld}
+use Rattle.record.specs.declared.mnemonic.Coprocessor.{Coprocessor}
+use Rattle.record.specs.declared.mnemonic.Coprocessor.TheVariants.{Ldc, Ldcl, Ldc2, Ldc2l, Stc, Stcl, Stc2, Stc2l, Mcrr2, Mcr2, Mrrc2, Mcrr, Mrrc, Mrc2, Cdp2}
 use Rattle.record.specs.Notation.{a_flag, a_number, in_parentheses, AllHeld}
 use Rattle.record.specs.Opcodes.{opcode, plain, or_else, flow, data_words, memory, multiply, bits, system, parallel, flagged, coprocessor, flagged_with, coprocessor_with}
-use Rattle.record.specs.Parsing.{Tokens, Table, then, row, either, bracketed, pair, flag, number}
+use Rattle.record.specs.Parsing.{Tokens, Table, then, row, bracketed, pair, flag, number}
 use Rattle.record.specs.Written.{opcode_variant, opcode_written}
-use Rattle.record.specs.Tokens.{first, others}
-use Rattle.record.proofs.Faithful.{Faithful, some_is, some_pair, row_is, either_some, variant_sound, pair_faithful, bracketed_faithful}
+use Rattle.record.proofs.Faithful.{Faithful, some_pair, row_is, either_some, variant_sound, pair_faithful, bracketed_faithful}
 use Rattle.record.proofs.Leaves.{flag_faithful, number_faithful}
 
 code_faithful : Faithful (λ n. n ≤ 255) (λ n. n) (λ n. decimal n ∷ []) (number 255)

@@ -1,12 +1,12 @@
 -- Operands are read as they are written. Assumes nothing.
-use Rattle.std.proofs.Common.{◌≡◌, ℕ, ◌≤◌, Bool, true, false, List, [], ◌∷◌, ◌++◌, map, Some, None, codes, decimal, Option, sym, refl, ap, ◌∙◌, ⊎_elim, arith}
+use Rattle.std.proofs.Common.{◌≡◌, ℕ, ◌≤◌, List, [], ◌∷◌, ◌++◌, Some, None, codes, refl, ap, ◌∙◌, ⊎_elim, arith}
 use Rattle.armv7.specs.declared.operand.Operand.{Operand}
 use Rattle.armv7.specs.declared.operand.Operand.TheVariants.{Reg as in_reg, RegWBack, RegList, RegDeref, RegShift as in_shift, RegDerefPostindexRegShift, RegDerefPreindexRegShift, RegDerefPostindexOffset, RegDerefPreindexOffset, RegDerefPostindexReg, RegDerefPreindexReg, Imm12, Imm32, BranchOffset, BranchThumbOffset, Coprocessor as in_coprocessor, CoprocOption, CReg as in_creg, BankedReg, BankedSPSR, StatusRegMask as in_mask, APSR, SPSR, CPSR, Nothing}
 use Rattle.record.specs.declared.operand.Name.{Name}
 use Rattle.record.specs.declared.operand.Name.TheVariants.{Register, WrittenBack, Registers, Address, Shifted, PostShifted, PreShifted, PostOffset, PreOffset, PostRegister, PreRegister, Twelve, Word, Branch, ThumbBranch, Coprocessor, Choice, Control, Banked, BankedStatus, Mask}
 use Rattle.record.specs.Notation.{a_flag, a_number, a_distance, a_register, a_control, a_shift, a_bank, a_mask, argument, more_arguments, in_parentheses, in_braces, Held, AllHeld}
 use Rattle.record.specs.Operands.{bare, names, operand, operand_with, settled_operand}
-use Rattle.record.specs.Parsing.{Tokens, then, row, either, bracketed, pair, flag, number, chosen}
+use Rattle.record.specs.Parsing.{Tokens, then, row, bracketed, pair, flag, number, chosen}
 use Rattle.record.specs.Parts.{register, control, shift, settled, banks, masks, distance}
 use Rattle.record.specs.Written.{operand_variant, operand_written}
 use Rattle.record.proofs.Faithful.{Faithful, some_pair, row_is, either_some, variant_sound, pair_faithful, bracketed_faithful}

@@ -2,8 +2,6 @@
 use Rattle.std.specs.Prelude.{ℕ, List, [], ◌∷◌, ◌++◌, Some, None, codes, decimal, Option}
 use Rattle.armv7.specs.Faults.{refusal, fault_word}
 use Rattle.armv7.specs.declared.fault.Fault.{Fault}
-use Rattle.record.specs.declared.given.Given.{Given}
-use Rattle.record.specs.declared.given.Given.TheVariants.{End}
 use Rattle.record.specs.declared.misread.Expected.{Expected}
 use Rattle.record.specs.declared.misread.Expected.TheVariants.{Call, Given as Token, Condition, Opcode, Operand, Bank, Mask, Flag, Code, Halfword, Word, Distance, Register, Control, ShiftWord}
 use Rattle.record.specs.declared.misread.Misread.{Misread}

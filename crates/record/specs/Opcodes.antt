@@ -1,11 +1,11 @@
 -- The reader on tokens: opcodes. Assumes nothing.
-use Rattle.std.specs.Prelude.{ℕ, Bool, List, [], ◌∷◌, Some, None, codes, Option}
+use Rattle.std.specs.Prelude.{ℕ, List, [], ◌∷◌, Some, None, codes, Option}
 use Rattle.opcode.specs.declared.Opcode.{Opcode}
 use Rattle.opcode.specs.declared.Opcode.TheVariants.{Invalid, POP, PUSH, B, BL, BLX, BX, BXJ, AND, EOR, SUB, RSB, ADD, ADC, SBC, RSC, TST, TEQ, CMP, CMN, ORR, MOV, BIC, MVN, LSL, LSR, ASR, RRX, ROR, ADR, MSR, MRS, CLZ, LDREXH, STREXH, LDREXB, STREXB, LDREXD, STREXD, LDREX, STREX, LDM, STM, LDR, STR, LDRH, STRH, LDRB, STRB, LDRSH, LDRSHT, LDRSB, LDRSBT, STRD, LDRD, LDC, LDCL, LDC2, LDC2L, STC, STCL, STC2, STC2L, MCRR2, MCR2, MRRC2, MCRR, MRRC, MRC2, CDP2, SRS, RFE, LDRT, STRT, LDRHT, STRHT, LDRBT, STRBT, SWP, SWPB, MUL, MLA, UMAAL, MLS, UMULL, UMLAL, SMULL, SMUL, SMLA, SMLAL, SMLAL_halfword, SMAL, SMLAW, ERET, BKPT, HVC, SMC, MOVT, QDSUB, QDADD, QSUB, QADD, TBB, TBH, UDF, SVC, WFE, WFI, SEV, CSDB, YIELD, HINT, NOP, LEAVEX, ENTERX, CLREX, DSB, DMB, ISB, SXTH, UXTH, SXTB16, UXTB16, SXTB, UXTB, SXTAH, UXTAH, SXTAB16, UXTAB16, SXTAB, UXTAB, CBZ, CBNZ, SETEND, CPS, CPS_modeonly, REV, REV16, REVSH, IT, PKHTB, PKHBT, ORN, SSAT, SSAT16, SBFX, USAT, USAT16, UBFX, BFI, BFC, DBG, PLD, PLI, RBIT, SEL, SADD16, QADD16, SHADD16, SASX, QASX, SHASX, SSAX, QSAX, SHSAX, SSUB16, QSUB16, SHSUB16, SADD8, QADD8, SHADD8, SSUB8, QSUB8, SHSUB8, UADD16, UQADD16, UHADD16, UASX, UQASX, UHASX, USAX, UQSAX, UHSAX, USUB16, UQSUB16, UHSUB16, UADD8, UQADD8, UHADD8, USUB8, UQSUB8, UHSUB8, SMLSD, SMMLA, SMMLS, USADA8, USAD8, SMLAD, SMUSD, SMMUL, SMULW, SMUAD, SDIV, UDIV, SMLALD, SMLSLD}
-use Rattle.record.specs.declared.opcode.Flagged.{Flagged}
-use Rattle.record.specs.declared.opcode.Flagged.TheVariants.{Ldm, Stm, Srs, Rfe, Smul, Smla, SmlalHalfword, Smal, Smlaw, Cps, Smulw, Smlald, Smlsld}
-use Rattle.record.specs.declared.opcode.Coprocessor.{Coprocessor}
-use Rattle.record.specs.declared.opcode.Coprocessor.TheVariants.{Ldc, Ldcl, Ldc2, Ldc2l, Stc, Stcl, Stc2, Stc2l, Mcrr2, Mcr2, Mrrc2, Mcrr, Mrrc, Mrc2, Cdp2}
+use Rattle.record.specs.declared.mnemonic.Flagged.{Flagged}
+use Rattle.record.specs.declared.mnemonic.Flagged.TheVariants.{Ldm, Stm, Srs, Rfe, Smul, Smla, SmlalHalfword, Smal, Smlaw, Cps, Smulw, Smlald, Smlsld}
+use Rattle.record.specs.declared.mnemonic.Coprocessor.{Coprocessor}
+use Rattle.record.specs.declared.mnemonic.Coprocessor.TheVariants.{Ldc, Ldcl, Ldc2, Ldc2l, Stc, Stcl, Stc2, Stc2l, Mcrr2, Mcr2, Mrrc2, Mcrr, Mrrc, Mrc2, Cdp2}
 use Rattle.record.specs.Parsing.{Parser, Table, row, via, pair, bracketed, number, flag, either}
 use Rattle.record.specs.Tokens.{first, others}
 

@@ -1,7 +1,6 @@
 -- The reader on tokens: what it takes off their front, or nothing where they are not written so. Assumes nothing.
 use Rattle.std.specs.Borrow.{Bor}
 use Rattle.std.specs.Prelude.{ℕ, Bool, true, false, cond, ◌&&◌, List, [], ◌∷◌, Some, None, codes, decimal, Option, nat_le}
-use Rattle.std.specs.Option.{option_map}
 use Rattle.std.specs.Str.Parse.{digits_value}
 use Rattle.std.specs.Str.{bytes_eq}
 use Rattle.record.specs.declared.given.Given.{Given}

@@ -1,5 +1,5 @@
 -- The reader on tokens: registers, shifts, banks and masks. Assumes nothing.
-use Rattle.std.specs.Prelude.{ℕ, zero, suc, Bool, true, false, cond, not, ◌&&◌, List, [], ◌∷◌, ℤ, pos, negsuc, Some, None, codes, Option, ◌==◌, nat_le}
+use Rattle.std.specs.Prelude.{ℕ, zero, suc, cond, not, ◌&&◌, List, [], ◌∷◌, ℤ, pos, negsuc, Some, None, codes, Option, ◌==◌, nat_le}
 use Rattle.armv7.specs.Shifts.{bit, shift_word}
 use Rattle.armv7.specs.declared.bank.Bank.{Bank}
 use Rattle.armv7.specs.declared.bank.Bank.TheVariants.{Usr, Fiq, Irq, Svc, Abt, Und, Mon, Hyp}

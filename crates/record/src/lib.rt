@@ -9,7 +9,7 @@ mod leaf;
 mod lex;
 mod messages;
 mod misread;
-mod opcode;
+mod mnemonic;
 mod operand;
 mod part;
 mod read;

@@ -1,5 +1,5 @@
 use Rattle.record.specs.Opcodes.{multiply}
-use Rattle.record.proofs.opcode.multiply_of.Goals as goal
+use Rattle.record.proofs.mnemonic.multiply_of.Goals as goal
 
 pub returns : goal.returns
 unfolding multiply

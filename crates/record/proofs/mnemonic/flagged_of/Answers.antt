@@ -1,5 +1,5 @@
 use Rattle.record.specs.Opcodes.{flagged}
-use Rattle.record.proofs.opcode.flagged_of.Goals as goal
+use Rattle.record.proofs.mnemonic.flagged_of.Goals as goal
 
 pub returns : goal.returns
 unfolding flagged

@@ -1,5 +1,5 @@
 use Rattle.record.specs.Opcodes.{parallel}
-use Rattle.record.proofs.opcode.parallel_of.Goals as goal
+use Rattle.record.proofs.mnemonic.parallel_of.Goals as goal
 
 pub returns : goal.returns
 unfolding parallel

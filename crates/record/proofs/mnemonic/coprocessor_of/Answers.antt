@@ -1,5 +1,5 @@
 use Rattle.record.specs.Opcodes.{coprocessor}
-use Rattle.record.proofs.opcode.coprocessor_of.Goals as goal
+use Rattle.record.proofs.mnemonic.coprocessor_of.Goals as goal
 
 pub returns : goal.returns
 unfolding coprocessor

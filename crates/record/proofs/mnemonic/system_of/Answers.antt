@@ -1,5 +1,5 @@
 use Rattle.record.specs.Opcodes.{system}
-use Rattle.record.proofs.opcode.system_of.Goals as goal
+use Rattle.record.proofs.mnemonic.system_of.Goals as goal
 
 pub returns : goal.returns
 unfolding system

@@ -1,5 +1,5 @@
 use Rattle.record.specs.Opcodes.{data_words}
-use Rattle.record.proofs.opcode.data_of.Goals as goal
+use Rattle.record.proofs.mnemonic.data_of.Goals as goal
 
 pub returns : goal.returns
 unfolding data_words

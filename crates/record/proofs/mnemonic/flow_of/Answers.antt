@@ -1,5 +1,5 @@
 use Rattle.record.specs.Opcodes.{flow}
-use Rattle.record.proofs.opcode.flow_of.Goals as goal
+use Rattle.record.proofs.mnemonic.flow_of.Goals as goal
 
 pub returns : goal.returns
 unfolding flow

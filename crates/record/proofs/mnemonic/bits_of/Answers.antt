@@ -1,5 +1,5 @@
 use Rattle.record.specs.Opcodes.{bits}
-use Rattle.record.proofs.opcode.bits_of.Goals as goal
+use Rattle.record.proofs.mnemonic.bits_of.Goals as goal
 
 pub returns : goal.returns
 unfolding bits

@@ -1,5 +1,5 @@
 use Rattle.record.specs.Opcodes.{memory}
-use Rattle.record.proofs.opcode.memory_of.Goals as goal
+use Rattle.record.proofs.mnemonic.memory_of.Goals as goal
 
 pub returns : goal.returns
 unfolding memory
