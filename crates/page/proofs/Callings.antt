@@ -9,7 +9,7 @@ use Rattle.visitor.specs.Visits.{PrintedUnless}
 use Rattle.armv7.specs.declared.call.Call.{Call}
 use Rattle.page.specs.declared.entry.PageFault.{PageFault}
 use Rattle.page.specs.declared.page.Page.{Page}
-use Rattle.page.specs.Answers.{told, told-by}
+use Rattle.page.specs.Answers.{told, told_by}
 use Rattle.page.specs.Rows.{row_refused, row, RowPrinted}
 use Rattle.page.specs.Spellings.{Spelling, call_refused, call_line}
 use Rattle.page.specs.Steps.{counted, counted_unless, Changed, Step}
@@ -19,7 +19,7 @@ row_length : (is : List Item) → length (bytes (row is)) ≡ suc (length (bytes
 row_length is = ap length (bytes_append is (byte 10 ∷ [])) ∙ omega (arith, length-append (bytes is) (10 ∷ []))
 
 module _ {S : Type 0} (meaning : S → Meaning) (kept : S → S → Type 0) (s : Spelling) (c : Call) (p q : Page S) (mid : S) (o : Option Refusal) (r : Result ℕ PageFault) where
-  pub step_of : RowPrinted meaning kept (call_refused s c) (call_line s c) p.sink o mid → told r ≡ told-by o p.count (counted p.count) → q.sink ≡ mid → q.count ≡ counted_unless o p.count → Step meaning kept s c p r q
+  pub step_of : RowPrinted meaning kept (call_refused s c) (call_line s c) p.sink o mid → told r ≡ told_by o p.count (counted p.count) → q.sink ≡ mid → q.count ≡ counted_unless o p.count → Step meaning kept s c p r q
   step_of h t e n = by (row_refused (call_refused s c) (room (meaning p.sink)) (length (bytes (call_line s c)))) refl h
     where
       by : (w : Option Refusal) → row_refused (call_refused s c) (room (meaning p.sink)) (length (bytes (call_line s c))) ≡ w → PrintedUnless meaning kept w (row (call_line s c)) p.sink o mid → Step meaning kept s c p r q
@@ -27,9 +27,9 @@ module _ {S : Type 0} (meaning : S → Meaning) (kept : S → S → Type 0) (s :
           let fits = (row_fits (call_refused s c) (room (meaning p.sink)) (length (bytes (call_line s c))) f).1 in
           let short : length (bytes (row (call_line s c))) ≤ room (meaning p.sink) = omega (arith, row_length (call_line s c)) in
           let quiet : o ≡ None = g.told ∙ ap (λ b. cond b (Some (refused_with 9 no_operand)) None) (le-ltb (room (meaning p.sink)) (length (bytes (row (call_line s c)))) short) in
-          let answer : told r ≡ told-by None p.count (counted p.count) = t ∙ ap (λ x. told-by x p.count (counted p.count)) quiet in
+          let answer : told r ≡ told_by None p.count (counted p.count) = t ∙ ap (λ x. told_by x p.count (counted p.count)) quiet in
           record {
-            answered = answer ∙ ap (λ x. told-by x p.count (counted p.count)) (sym f);
+            answered = answer ∙ ap (λ x. told_by x p.count (counted p.count)) (sym f);
             changed = subst (λ x. Changed meaning kept (call_line s c) x p q) (sym answer) (record {
               held = ap meaning e ∙ g.held ∙ handed_whole (row (call_line s c)) (meaning p.sink) short;
               rest = subst (kept p.sink) (sym e) g.rest;
@@ -37,8 +37,8 @@ module _ {S : Type 0} (meaning : S → Meaning) (kept : S → S → Type 0) (s :
             });
           }
       by (Some why) f g =
-          let answer : told r ≡ told-by (Some why) p.count (counted p.count) = t ∙ ap (λ x. told-by x p.count (counted p.count)) g.told in
+          let answer : told r ≡ told_by (Some why) p.count (counted p.count) = t ∙ ap (λ x. told_by x p.count (counted p.count)) g.told in
           record {
-            answered = answer ∙ ap (λ x. told-by x p.count (counted p.count)) (sym f);
+            answered = answer ∙ ap (λ x. told_by x p.count (counted p.count)) (sym f);
             changed = subst (λ x. Changed meaning kept (call_line s c) x p q) (sym answer) (ap₂ (λ x k. record { sink = x; count = k }) (e ∙ g.still) (n ∙ ap (λ x. counted_unless x p.count) g.told));
           }

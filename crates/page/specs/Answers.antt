@@ -12,6 +12,6 @@ told (Ok n) = lines n
 told (Err f) = fault (refusal f.fault) f.count
 
 -- a call on a page of so many lines is refused, or makes it a page of the next number
-abbrev pub told-by : Option Refusal → ℕ → ℕ → Told
-told-by None count next = lines next
-told-by (Some why) count next = fault why count
+abbrev pub told_by : Option Refusal → ℕ → ℕ → Told
+told_by None count next = lines next
+told_by (Some why) count next = fault why count

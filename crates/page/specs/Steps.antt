@@ -7,13 +7,13 @@ use Rattle.sink.specs.Printed.{taken}
 use Rattle.armv7.specs.declared.call.Call.{Call}
 use Rattle.page.specs.declared.entry.PageFault.{PageFault}
 use Rattle.page.specs.declared.page.Page.{Page}
-use Rattle.page.specs.Answers.{Told, lines, fault, told, told-by}
+use Rattle.page.specs.Answers.{Told, lines, fault, told, told_by}
 use Rattle.page.specs.Rows.{row_refused, row}
 use Rattle.page.specs.Spellings.{Spelling, call_refused, call_line}
 
 -- what a call is owed at this room, on a page of so many lines: its refusal, page full, or the next number
 abbrev pub owed : Spelling → ℕ → ℕ → ℕ → Call → Told
-owed s room count next c = told-by (row_refused (call_refused s c) room (length (bytes (call_line s c)))) count next
+owed s room count next c = told_by (row_refused (call_refused s c) room (length (bytes (call_line s c)))) count next
 
 -- the next count, in 64 bits
 abbrev pub counted : ℕ → ℕ

@@ -2,7 +2,7 @@
 ghost use Rattle.std.specs.Prelude.{◌≡◌};
 ghost use Rattle.sink.specs.Outcome.{outcome};
 ghost use Rattle.armv7.specs.declared.call.Call.TheVariants.{Print, Gap};
-ghost use Rattle.page.specs.Answers.{told, told-by};
+ghost use Rattle.page.specs.Answers.{told, told_by};
 ghost use Rattle.page.specs.Spellings.{own};
 ghost use Rattle.page.specs.Steps.{counted, counted_unless, Step, made_on};
 
@@ -28,7 +28,7 @@ impl<S: RoomSink> Page<S> {
 
     // Counts a line that was written, or tells a refusal with the count.
     fn answer(&mut self, wrote: Result<(), Fault>) -> Result<u64, PageFault>
-        ensures result_value { told result ≡ told-by (outcome wrote) self.old.count (counted self.old.count) }
+        ensures result_value { told result ≡ told_by (outcome wrote) self.old.count (counted self.old.count) }
         ensures sink_unchanged { self.new.sink ≡ self.old.sink }
         ensures count_after { self.new.count ≡ counted_unless (outcome wrote) self.old.count }
     {

@@ -20,7 +20,7 @@ use Rattle.armv7.specs.declared.call.Call.TheVariants.{Print, Gap}
 use Rattle.page.specs.declared.entry.Entry.{Entry}
 use Rattle.page.specs.declared.entry.PageFault.{PageFault}
 use Rattle.page.specs.declared.page.Page.{Page}
-use Rattle.page.specs.Answers.{Told, lines, fault, told, told-by}
+use Rattle.page.specs.Answers.{Told, lines, fault, told, told_by}
 use Rattle.page.specs.Rows.{row_refused, row}
 use Rattle.runs.specs.Runs.{called, if_accepted, accepted, page_items, call_lines, page_text, CutsInto, Run}
 use Rattle.page.specs.Spellings.{Spelling, FitsExactly, Lawful, own, call_refused, call_line, call_sheet}
@@ -44,7 +44,7 @@ empty_fits t (stack_line l) = named (stack_name t.load) _ (reassociate (name_let
 empty_fits t (transfer_line l) =
     named (transfer t.load t.add t.pre) _ (reassociate (name_letters (transfer t.load t.add t.pre)) _ _ l.written)
 
-told_lines : (o : Option Refusal) (count next n : ℕ) → lines n ≡ told-by o count next → (o ≡ None) × (n ≡ next)
+told_lines : (o : Option Refusal) (count next n : ℕ) → lines n ≡ told_by o count next → (o ≡ None) × (n ≡ next)
 told_lines None count next n e = (refl, ap number e)
   where
     number : Told → ℕ
@@ -53,7 +53,7 @@ told_lines None count next n e = (refl, ap number e)
 told_lines (Some why) count next n e = clash (ap (λ t. if_accepted t 0 1) e)
 
 -- the number of the next line is told only to an accepted call
-next_told : (o : Option Refusal) (count a b : ℕ) → (o ≡ None → a ≡ b) → told-by o count a ≡ told-by o count b
+next_told : (o : Option Refusal) (count a b : ℕ) → (o ≡ None → a ≡ b) → told_by o count a ≡ told_by o count b
 next_told None count a b h = ap lines (h refl)
 next_told (Some why) count a b h = refl
 
@@ -150,7 +150,7 @@ module _ {S : Type 0} {meaning : S → Meaning} {kept : S → S → Type 0} (law
       answered =
           x.answered
           ∙ next_told (row_refused (call_refused s c) (room (meaning p.sink)) (length (bytes (call_line s c)))) p.count (counted p.count) (suc (length (accepted es))) next
-          ∙ ap (λ k. told-by (row_refused (call_refused s c) (room (meaning p.sink)) (length (bytes (call_line s c)))) k (suc (length (accepted es)))) st.count_is
+          ∙ ap (λ k. told_by (row_refused (call_refused s c) (room (meaning p.sink)) (length (bytes (call_line s c)))) k (suc (length (accepted es)))) st.count_is
           ∙ ap (λ k. owed s k (length (accepted es)) (suc (length (accepted es))) c) (room_left st)
 
       by : (t : Told) → told r ≡ t → Changed meaning kept (call_line s c) t p q → State (es ++ record { call = c; answer = r } ∷ []) q

@@ -7,8 +7,8 @@ use Rattle.blocks.proofs.Bounds.{lines_bounded}
 use Rattle.buffer.proofs.Printed.{Held, held}
 use Rattle.buffer.proofs.InstructionTextBuffer.format_inst.Goals as goal
 
-pub shape-of-self : goal.shape-of-self
-shape-of-self c =
+pub shape_of-self : goal.shape_of-self
+shape_of-self c =
     let i = c.args.instruction.now in
     let told = held text_meaning TextKept text_laws (line i) _ _ c.new-out.result c.visit_inst-answer.new.out (outcome c.visit_inst-answer.result) (refused i) c.new-out.ensures.empty (λ e. omega (arith, (lines_bounded i e).size)) c.visit_inst-answer.ensures.printed_or_refused in
     sym (told.rest.memory ∙ c.new-out.ensures.memory.1)
