@@ -1,6 +1,6 @@
 -- The registers of a list are read back from its text. Assumes nothing.
 use Rattle.std.proofs.Common.{◌≡◌, ℕ, suc, true, cond, ◌&&◌, eqb, ltb, List, [], ◌∷◌, ◌++◌, length, get_or, sym, refl, ap, ◌∙◌, ap₂, append_assoc, arith}
-use Rattle.std.specs.List.{AllByRecursion as All}
+use Rattle.std.specs.List.{AllByRecursion}
 use Rattle.std.proofs.lemmas.Bool.{eqb-true, ltb-true, false≢true}
 use Rattle.armv7.specs.declared.reg.Reg.{Reg}
 use Rattle.armv7.specs.Registers.{reg_name, reg_names, reg_number}
@@ -8,7 +8,7 @@ use Rattle.blocks.specs.Grammar.{list_rest, list_text, Listed, bits}
 use Rattle.blocks.proofs.Split.{split, same_head, same_rest, Stops, Plain, all_plain}
 use Rattle.blocks.proofs.Tables.{at_register, same_registers}
 
-pub plain_name : (r : Reg) → All Plain (reg_name r)
+pub plain_name : (r : Reg) → AllByRecursion Plain (reg_name r)
 plain_name r = all_plain (reg_name r) (grind arith)
 
 -- the place of a name in the table, by three letters

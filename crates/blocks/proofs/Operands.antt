@@ -1,6 +1,6 @@
 -- The row of each operand has at most 65 bytes and 32 marks. Assumes nothing.
 use Rattle.std.proofs.Common.{◌≡◌, ℕ, zero, suc, ◌+◌, ◌-◌, ◌*◌, ◌/◌, ◌%◌, Bool, true, false, cond, not, ◌&&◌, T, eqb, ltb, leb, List, [], ◌∷◌, ◌++◌, map, length, get_or, ℤ, pos, negsuc, codes, refl, arith, lit≤}
-use Rattle.std.specs.List.{AllByRecursion as All}
+use Rattle.std.specs.List.{AllByRecursion}
 use Rattle.armv7.specs.declared.operand.Operand.{Operand}
 use Rattle.armv7.specs.declared.operand.Operand.TheVariants.{Reg as One, RegWBack, RegList, RegDeref, RegShift as Shifted, RegDerefPostindexRegShift, RegDerefPreindexRegShift, RegDerefPostindexOffset, RegDerefPreindexOffset, RegDerefPostindexReg, RegDerefPreindexReg, Imm12, Imm32, BranchOffset, BranchThumbOffset, Coprocessor, CoprocOption, CReg as Control, BankedReg, BankedSPSR, StatusRegMask as Fields, APSR, SPSR, CPSR, Nothing}
 use Rattle.armv7.specs.declared.bank.Bank.{Bank}
@@ -36,7 +36,7 @@ status_text m = text 11 (status_name m) (grind arith)
 pub decimal_text : (n : ℕ) → Text 2 (decimal n)
 decimal_text n = text_either (ltb n 10) (record { size = omega arith; one_line = (omega arith, tt) }) (record { size = omega arith; one_line = (omega arith, (omega arith, tt)) })
 
-entry : (P : ℕ → Type 0) (xs : List ℕ) (n d : ℕ) → All P xs → P d → P (get_or xs n d)
+entry : (P : ℕ → Type 0) (xs : List ℕ) (n d : ℕ) → AllByRecursion P xs → P d → P (get_or xs n d)
 entry P [] n d h k = k
 entry P (x ∷ xs) zero d h k = h.0
 entry P (x ∷ xs) (suc n) d h k = entry P xs n d h.1 k

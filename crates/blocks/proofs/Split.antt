@@ -1,6 +1,6 @@
 -- Two texts that are equal, each cut where a run of bytes ends, are equal in both parts. Assumes nothing.
 use Rattle.std.proofs.Common.{◌≡◌, ℕ, Bool, true, ◌&&◌, leb, List, [], ◌∷◌, ◌++◌, length, get_or, drop, sym, refl, ap, subst, ap₂, arith}
-use Rattle.std.specs.List.{AllByRecursion as All}
+use Rattle.std.specs.List.{AllByRecursion}
 use Rattle.std.proofs.lemmas.Bool.{and_parts}
 
 pub same_head : {x y : ℕ} {a b : List ℕ} → x ∷ a ≡ y ∷ b → x ≡ y
@@ -17,7 +17,7 @@ abbrev pub Stops : (ℕ → Type 0) → List ℕ → Type 0
 Stops P [] = Unit {0}
 Stops P (x ∷ t) = P x → ⊥
 
-pub split : (P : ℕ → Type 0) (a b x y : List ℕ) → All P a → All P b → Stops P x → Stops P y → a ++ x ≡ b ++ y → (a ≡ b) × (x ≡ y)
+pub split : (P : ℕ → Type 0) (a b x y : List ℕ) → AllByRecursion P a → AllByRecursion P b → Stops P x → Stops P y → a ++ x ≡ b ++ y → (a ≡ b) × (x ≡ y)
 split P [] [] x y f g h k e = (refl, e)
 split P [] (c ∷ b) [] y f g h k e = absurd (never_empty e)
 split P [] (c ∷ b) (d ∷ x) y f g h k e = absurd (h (subst P (sym (same_head e)) g.0))
@@ -38,6 +38,6 @@ abbrev pub plain_text : List ℕ → Bool
 plain_text [] = true
 plain_text (b ∷ t) = plain b && plain_text t
 
-pub all_plain : (t : List ℕ) → plain_text t ≡ true → All Plain t
+pub all_plain : (t : List ℕ) → plain_text t ≡ true → AllByRecursion Plain t
 all_plain [] e = tt
 all_plain (b ∷ t) e = let h = and_parts (plain b) (plain_text t) e in (h.0, all_plain t h.1)

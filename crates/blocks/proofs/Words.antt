@@ -1,6 +1,6 @@
 -- A word is read back: a name with its suffixes comes from one reading only. Assumes nothing.
 use Rattle.std.proofs.Common.{◌≡◌, ℕ, Bool, true, false, cond, not, ◌&&◌, ◌||◌, eqb, List, [], ◌∷◌, get_or, drop, sym, refl, ap, ◌∙◌, arith}
-use Rattle.std.specs.List.{AllByRecursion as All}
+use Rattle.std.specs.List.{AllByRecursion}
 use Rattle.std.proofs.lemmas.Bool.{and_parts, eqb-true}
 use Rattle.armv7.specs.declared.condition.ConditionCode.{ConditionCode}
 use Rattle.armv7.specs.declared.condition.ConditionCode.TheVariants.{AL}
@@ -119,7 +119,7 @@ same_words u v e =
 read_back : (v : Word) → read (letters v) ≡ v
 read_back v = same_words (read (letters v)) v (at_word (λ u. same_word (read (letters u)) u) refl v)
 
-pub plain_words : (v : Word) → All Plain (letters v)
+pub plain_words : (v : Word) → AllByRecursion Plain (letters v)
 plain_words v = all_plain (letters v) (at_word (λ u. plain_text (letters u)) refl v)
 
 pub one_word : OneWord

@@ -1,6 +1,6 @@
 -- What every line keeps to: its length, its marks, no line break in it, and spans that are closed. Assumes nothing.
 use Rattle.std.specs.Prelude.{◌≡◌, ℕ, ◌≤◌, List, [], ◌∷◌, ◌++◌, length, None, ◌≢◌}
-use Rattle.std.specs.List.{AllByRecursion as All}
+use Rattle.std.specs.List.{AllByRecursion}
 use Rattle.armv7.specs.declared.instruction.Instruction.{Instruction}
 use Rattle.sink.specs.declared.sink.Edge.TheVariants.{Start, End}
 use Rattle.sink.specs.declared.sink.Span.{Span}
@@ -16,7 +16,7 @@ pub data Nested : List Item → Type 0 where
 
 -- no byte ends a line
 abbrev pub OneLine : List ℕ → Type 0
-OneLine = All (λ b. b ≢ 10)
+OneLine = AllByRecursion (λ b. b ≢ 10)
 
 pub record Bounded (size_limit mark_limit : ℕ) (row : List Item) : Type 0 where
   pub size : length (bytes row) ≤ size_limit

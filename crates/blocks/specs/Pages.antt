@@ -1,6 +1,6 @@
 -- Lines one below the other, and how they are cut apart. Assumes nothing.
 use Rattle.std.specs.Prelude.{◌≡◌, ℕ, List, [], ◌∷◌, ◌++◌, map, None}
-use Rattle.std.specs.List.{AllByRecursion as All}
+use Rattle.std.specs.List.{AllByRecursion}
 use Rattle.armv7.specs.declared.instruction.Instruction.{Instruction}
 use Rattle.sink.specs.Items.{bytes}
 use Rattle.lines.specs.Admission.{refused}
@@ -26,5 +26,5 @@ abbrev pub printed : Instruction → List ℕ
 printed i = bytes (line i)
 
 pub record PagesCut : Type 0 where
-  pub any : (ls : List (List ℕ)) → All OneLine ls → CutApart ls
-  pub lines : (is : List Instruction) → All (λ i. refused i ≡ None) is → CutApart (map printed is)
+  pub any : (ls : List (List ℕ)) → AllByRecursion OneLine ls → CutApart ls
+  pub lines : (is : List Instruction) → AllByRecursion (λ i. refused i ≡ None) is → CutApart (map printed is)

@@ -2,7 +2,7 @@
 use Rattle.std.proofs.Common.{◌≡◌, ℕ, suc, ◌+◌, ◌-◌, ◌^◌, ◌<◌, ◌≤◌, min, true, false, List, [], ◌∷◌, ◌++◌, map, length, take, drop, Some, None, Option, Result, sym, refl, ap, ◌∙◌, subst, ap₂, append_assoc, append-nil, arith, length-append, take_all}
 use mathlib.Core.List.{map-append}
 use lib.Seq.{drop-append_seam}
-use Rattle.std.specs.List.{AllByRecursion as All}
+use Rattle.std.specs.List.{AllByRecursion}
 use Rattle.armv7.specs.Faults.{Refusal}
 use Rattle.sink.specs.Items.{Item, byte, bytes, marks_from}
 use Rattle.sink.specs.Meaning.{Meaning, Sound, Laws, room}
@@ -57,7 +57,7 @@ next_told : (o : Option Refusal) (count a b : ℕ) → (o ≡ None → a ≡ b) 
 next_told None count a b h = ap lines (h refl)
 next_told (Some why) count a b h = refl
 
-all_append : {A : Type 0} (P : A → Type 0) (xs : List A) (y : A) → All P xs → P y → All P (xs ++ y ∷ [])
+all_append : {A : Type 0} (P : A → Type 0) (xs : List A) (y : A) → AllByRecursion P xs → P y → AllByRecursion P (xs ++ y ∷ [])
 all_append P [] y h k = (k, tt)
 all_append P (x ∷ xs) y h k = (h.0, all_append P xs y h.1 k)
 
@@ -73,11 +73,11 @@ module _ (s : Spelling) where
   line_fits w (Print i) h t = w.fits i h t
   line_fits w Gap h t = ((λ f. absurd (empty_fits t f)), (λ e. clash cc))
 
-  all_bounded : Lawful s → (cs : List Call) → All Admitted cs → All (Bounded 285 130) (call_lines s cs)
+  all_bounded : Lawful s → (cs : List Call) → AllByRecursion Admitted cs → AllByRecursion (Bounded 285 130) (call_lines s cs)
   all_bounded w [] h = tt
   all_bounded w (c ∷ cs) h = (line_bounded w c h.0, all_bounded w cs h.1)
 
-  all_fit : Lawful s → (cs : List Call) → All Admitted cs → All (λ c. FitsExactly (call_line s c) (call_sheet s c)) cs
+  all_fit : Lawful s → (cs : List Call) → AllByRecursion Admitted cs → AllByRecursion (λ c. FitsExactly (call_line s c) (call_sheet s c)) cs
   all_fit w [] h = tt
   all_fit w (c ∷ cs) h = (line_fits w c h.0, all_fit w cs h.1)
 
@@ -86,7 +86,7 @@ module _ (s : Spelling) where
   page_grows [] = omega arith
   page_grows (c ∷ cs) = omega (arith, length-append (bytes (call_line s c)) (10 ∷ page_text s cs), page_grows cs)
 
-  all_one_line : (ls : List (List Item)) → All (Bounded 285 130) ls → All OneLine (map bytes ls)
+  all_one_line : (ls : List (List Item)) → AllByRecursion (Bounded 285 130) ls → AllByRecursion OneLine (map bytes ls)
   all_one_line [] h = tt
   all_one_line (l ∷ ls) h = (h.0.one_line, all_one_line ls h.1)
 
@@ -118,7 +118,7 @@ module _ {S : Type 0} {meaning : S → Meaning} {kept : S → S → Type 0} (law
     pub held : meaning p.sink ≡ taken (page_items (call_lines s (accepted es))) (meaning start)
     pub rest : kept start p.sink
     pub count_is : p.count ≡ length (accepted es)
-    pub admitted : All (Admitted s) (accepted es)
+    pub admitted : AllByRecursion (Admitted s) (accepted es)
     pub answers : Answered s (meaning start) es
 
   -- nothing was called yet
@@ -164,7 +164,7 @@ module _ {S : Type 0} {meaning : S → Meaning} {kept : S → S → Type 0} (law
                 ∙ ap (λ is. taken is (meaning start)) (sym (lines_push s (accepted es) c) ∙ ap (λ cs. page_items (call_lines s cs)) (sym new));
             rest = laws.lasts start p.sink q.sink st.rest ch.rest;
             count_is = ch.count_is ∙ fit.1 ∙ next fit.0 ∙ omega (arith, length-append (accepted es) (c ∷ [])) ∙ ap length (sym new);
-            admitted = subst (All (Admitted s)) (sym new) (all_append (Admitted s) (accepted es) c st.admitted (row_fits (call_refused s c) _ _ fit.0).0);
+            admitted = subst (AllByRecursion (Admitted s)) (sym new) (all_append (Admitted s) (accepted es) c st.admitted (row_fits (call_refused s c) _ _ fit.0).0);
             answers = answers_push s (meaning start) es (record { call = c; answer = r }) st.answers answered;
           }
       by (fault f k) h ch =
@@ -173,7 +173,7 @@ module _ {S : Type 0} {meaning : S → Meaning} {kept : S → S → Type 0} (law
             held = ap (λ z. meaning z.sink) ch ∙ st.held ∙ ap (λ cs. taken (page_items (call_lines s cs)) (meaning start)) (sym same);
             rest = subst (λ z. kept start z.sink) (sym ch) st.rest;
             count_is = ap (λ z. z.count) ch ∙ st.count_is ∙ ap length (sym same);
-            admitted = subst (All (Admitted s)) (sym same) st.admitted;
+            admitted = subst (AllByRecursion (Admitted s)) (sym same) st.admitted;
             answers = answers_push s (meaning start) es (record { call = c; answer = r }) st.answers answered;
           }
 
@@ -184,7 +184,7 @@ module _ {S : Type 0} {meaning : S → Meaning} {kept : S → S → Type 0} (law
   pub law : Lawful s → {es : List Entry} {p : Page S} → State es p → (calls : List Call) → map called es ≡ calls → Run s (meaning start) calls es (meaning p.sink) p.count
   law w {es} {p} st calls h =
       let written : (meaning p.sink).text ≡ (meaning start).text ++ page_text s (accepted es) = ap (λ m. m.text) st.held ∙ ap (λ b. (meaning start).text ++ b) (bytes_page (call_lines s (accepted es))) in
-      let bounds : All (Bounded 285 130) (call_lines s (accepted es)) = all_bounded s w (accepted es) st.admitted in
+      let bounds : AllByRecursion (Bounded 285 130) (call_lines s (accepted es)) = all_bounded s w (accepted es) st.admitted in
       let apart = pages_cut.any (map bytes (call_lines s (accepted es))) (all_one_line s (call_lines s (accepted es)) bounds) in
       let page_is : page_text s (accepted es) ≡ drop (length (meaning start).text) (meaning p.sink).text = sym (ap (drop (length (meaning start).text)) written ∙ drop-append_seam (meaning start).text (page_text s (accepted es))) in
       record {

@@ -1,6 +1,6 @@
 -- The law on runs: what a page holds and what its calls were answered, whatever they were. Assumes nothing.
 use Rattle.std.specs.Prelude.{◌≡◌, ℕ, suc, ◌-◌, List, [], ◌∷◌, ◌++◌, map, length, take, drop}
-use Rattle.std.specs.List.{AllByRecursion as All}
+use Rattle.std.specs.List.{AllByRecursion}
 use Rattle.sink.specs.Items.{Item, byte, bytes, marks_from}
 use Rattle.sink.specs.Meaning.{Meaning, room}
 use Rattle.blocks.specs.Bounds.{Bounded}
@@ -54,10 +54,10 @@ pub record Run (s : Spelling) (before : Meaning) (calls : List Call) (es : List 
   pub lines_counted : count ≡ length (accepted es)
   pub cut : CutsInto (drop (length before.text) after.text) (map bytes (call_lines s (accepted es)))
   -- no line break in a line, its length, and its spans closed in it, the last opened first
-  pub bounded : All (Bounded 285 130) (call_lines s (accepted es))
+  pub bounded : AllByRecursion (Bounded 285 130) (call_lines s (accepted es))
   -- the marks from before, then the lines' marks, up to the limit
   pub marks : after.marks ≡ take before.«mark_limit» (before.marks ++ marks_from (length before.text) (page_items (call_lines s (accepted es))))
   pub limit_stands : after.limit ≡ before.limit
   pub mark_limit_stands : after.«mark_limit» ≡ before.«mark_limit»
   -- a line fits the block grammar exactly with the sheet of its call, if that has one
-  pub sheets : All (λ c. FitsExactly (call_line s c) (call_sheet s c)) (accepted es)
+  pub sheets : AllByRecursion (λ c. FitsExactly (call_line s c) (call_sheet s c)) (accepted es)
