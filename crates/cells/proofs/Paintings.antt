@@ -1,12 +1,12 @@
 -- Cells that are painted behind a text, and turns of the ink. Assumes nothing.
-use Rattle.std.proofs.Common.{◌≡◌, ℕ, suc, ◌+◌, ◌-◌, ◌^◌, ◌<◌, ◌≤◌, min, List, [], ◌∷◌, ◌++◌, length, get_or, take, drop, set, sym, refl, ap, ◌∙◌, ap₂, append_assoc, append-nil, arith, length-append, take-append-drop, length-take, length-take-le, drop-cons}
+use Rattle.std.proofs.Common.{◌≡◌, ℕ, suc, ◌+◌, ◌-◌, ◌^◌, ◌<◌, min, List, [], ◌∷◌, ◌++◌, length, get_or, take, drop, set, sym, refl, ap, ◌∙◌, ap₂, append_assoc, append-nil, arith, length-append, take-append-drop, length-take-le, drop-cons}
 use mathlib.Core.List.{map-append}
 use lib.ListN.{length-map}
 use lib.Seq.{set_at}
 use Rattle.std.proofs.lemmas.List.{take-map, map_more}
 use Rattle.sink.specs.declared.sink.Edge.{Edge}
 use Rattle.sink.specs.declared.sink.Span.{Span}
-use Rattle.sink.specs.Items.{Item, edge, text_items}
+use Rattle.sink.specs.Items.{edge, text_items}
 use Rattle.sink.specs.Lent.{lent, spliced, Filled}
 use Rattle.sink.specs.Meaning.{Meaning, room, appended, marked}
 use Rattle.sink.specs.Outcome.{full_below}

@@ -1,5 +1,5 @@
 -- Worked inks. Assumes nothing.
-use Rattle.std.specs.Prelude.{◌≡◌, List, [], ◌∷◌, ◌++◌, codes}
+use Rattle.std.specs.Prelude.{◌≡◌, List, ◌∷◌, ◌++◌, codes}
 use Rattle.sink.specs.declared.sink.Edge.TheVariants.{Start, End}
 use Rattle.sink.specs.declared.sink.Span.TheVariants.{Opcode, Register}
 use Rattle.sink.specs.Items.{Item, edge, text_items}
