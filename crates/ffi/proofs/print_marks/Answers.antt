@@ -18,7 +18,7 @@ returns c =
     let same = c.new-sink.ensures.memory.0 in
     let told = shows mark_meaning MarkKept mark_laws (line i) _ 130 c.new-sink.result c.visit_inst-answer.new.out (outcome c.visit_inst-answer.result) (refused i) empty c.visit_inst-answer.ensures.printed_or_refused in
     let items = items_unless (refused i) (length c.args.out.now) (line i) in
-    let held : take c.end-length.result.1 c.marks-2·1.given.0 ≡ marks_from 0 items = ap (take c.end-length.result.1) (c.marks-2·1.given.1.1 (sym (told.rest.row ∙ c.new-sink.ensures.row.1)) ∙ c.end-length.ensures.row)
+    let held : take c.end-length.result.1 c.marks-2-1.given.0 ≡ marks_from 0 items = ap (take c.end-length.result.1) (c.marks-2-1.given.1.1 (sym (told.rest.row ∙ c.new-sink.ensures.row.1)) ∙ c.end-length.ensures.row)
     ∙ c.end-length.ensures.marks
     ∙ told.marks
     ∙ take_all 130 (marks_from 0 items) (marks_within (refused i) 130 (length c.args.out.now) (line i) (λ e. (lines_bounded i e).marks)) in
@@ -30,7 +30,7 @@ returns c =
       );
       column = c.answered.ensures.others.1;
       marks = c.answered.ensures.others.0 ∙ c.number_marks-written.ensures.value ∙ ap (λ ms. length (numbers_in (length c.args.row.now) ms)) held;
-      memory = c.out·1.given.1.1 (sym (told.rest.memory ∙ c.new-sink.ensures.memory.1))
+      memory = c.out-1.given.1.1 (sym (told.rest.memory ∙ c.new-sink.ensures.memory.1))
           ∙ c.end-length.ensures.memory
           ∙ filled_over _ _ _ _ _ told.rest.filled (ap (λ k. k.limit) empty ∙ ap length (sym same)) told.text
           ∙ ap (over _) same;

@@ -20,7 +20,7 @@ returns c =
         c.answered.ensures.refusal.1 ∙ ap (λ o. (numbered o).place) told.told,
       );
       others = c.answered.ensures.others;
-      memory = c.out·1.given.1.1 (sym (told.rest.memory ∙ c.new-sink.ensures.memory.1))
+      memory = c.out-1.given.1.1 (sym (told.rest.memory ∙ c.new-sink.ensures.memory.1))
           ∙ c.end-length.ensures.memory
           ∙ filled_over _ _ _ _ _ told.rest.filled (ap (λ k. k.limit) empty ∙ ap length (sym same)) told.text
           ∙ ap (over _) same;
