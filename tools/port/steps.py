@@ -1,6 +1,7 @@
 #!/usr/bin/env python3
 """Spells the names of functions in proof files as the source does: what an older toolchain called c.copy-from-slice and
-returns-in-Break-write-text is now c.copy_from_slice and returns-in_break-write_text.
+returns-in-err-write-text is now c.copy_from_slice and returns-in_err-write_text. In clauses of generic functions it writes a bound's
+members with the type's name, as T.meaning.
 
 usage: python3 tools/port/steps.py [CRATE..]     at the top of the repository, after respell.py
 """
@@ -60,4 +61,14 @@ def main(argv):
             open(p, "w", encoding="utf-8").write(new)
 
 
+def members():
+    for p in R.files(".rt"):
+        old = R.text(p)
+        new = re.sub(r"(?<=Printed |nless )meaning kept\b", "T.meaning T.kept", old)
+        new = new.replace("{ answers operand.now visitor.old", "{ V.answers operand.now visitor.old")
+        if new != old:
+            open(p, "w", encoding="utf-8").write(new)
+
+
 main(sys.argv[1:])
+members()
