@@ -64,7 +64,7 @@ def main(argv):
 def members():
     for p in R.files(".rt"):
         old = R.text(p)
-        new = re.sub(r"(?<=Printed |nless )meaning kept\b", "T.meaning T.kept", old)
+        new = re.sub(r"\b(Printed|PrintedUnless) meaning kept\b", r"\1 T.meaning T.kept", old)
         new = new.replace("{ answers operand.now visitor.old", "{ V.answers operand.now visitor.old")
         if new != old:
             open(p, "w", encoding="utf-8").write(new)
