@@ -5,7 +5,7 @@ use Rattle.armv7.specs.declared.operand.Operand.TheVariants.{RegWBack, RegList}
 use Rattle.armv7.specs.declared.reg.Reg.{Reg}
 use Rattle.armv7.specs.Registers.{reg_name}
 use Rattle.opcode.specs.declared.Opcode.TheVariants.{LDM, STM}
-use Rattle.sink.specs.declared.sink.Edge.TheVariants.{Start, End}
+use Rattle.sink.specs.declared.sink.Edge.TheVariants.{End}
 use Rattle.sink.specs.declared.sink.Span.TheVariants.{Register}
 use Rattle.sink.specs.Items.{Item, edge, text_items, bytes}
 use Rattle.sink.proofs.Rows.{bytes_append}
