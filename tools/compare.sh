@@ -21,10 +21,9 @@ build=$root/target/oracle
 words=$root/tools/oracle/words.txt
 
 "$root/tools/oracle/build.sh" "$folder" "$build"
-(cd "$root" && rt check vectors && rt staticlib ffi) > "$build/compare.log"
-toolchain=$(dirname "$(dirname "$(rt doc)")")
+(cd "$root/crates/vectors" && rt run < stdin && cd ../ffi && rt lib) > "$build/compare.log"
 (cd "$build/work" && cargo rustc --offline --quiet --release -p compare -- \
-    -L "native=$root/target/staticlib" -L "native=$toolchain/lib" -l static=ffi -l static=rattle_c)
+    -L "native=$root/crates/ffi/out" -l static=ffi)
 compare=$build/work/target/release/compare
 
 # The instructions a line of WHO over MIX: eleven rounds less one, by ten.
@@ -41,7 +40,7 @@ held)
     seed=${3:-1}
     end=$((seed + ${4:-10}))
     while [ "$seed" -lt "$end" ]; do
-        "$compare" held "$seed" 1000000 "$root/target/bin/vectors"
+        "$compare" held "$seed" 1000000 "$root/crates/vectors/out/vectors"
         seed=$((seed + 1))
     done
     ;;
