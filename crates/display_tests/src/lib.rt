@@ -4,7 +4,7 @@
 #[cfg(test)]
 mod buffers;
 #[cfg(test)]
-mod lines;
+mod printed;
 #[cfg(test)]
 mod refusals;
 #[cfg(test)]
