@@ -81,26 +81,27 @@ gap_alone : (ts : Tokens) (u : Unit {0}) (rest : Tokens) → Full ts → first t
 gap_alone [] u rest h b e = let len = ap length b in absurd (omega arith)
 gap_alone (t ∷ ts) u rest h b e = ap (λ w. w ∷ ts) b ∙ ap (λ l. codes "gap" ∷ l) (ended ts u rest h.1 e)
 
-instruction_alone : (ts : Tokens) (i : Instruction) (rest : Tokens) → Full ts → first ts ≡ codes "Instruction" → whole (others ts) ≡ Ok (i, rest) → ts ≡ written i
+instruction_alone : (ts : Tokens) (i : Instruction) (rest : Tokens) → Full ts → first ts ≡ codes "Instruction" → whole (others ts) ≡ Ok (i, rest) → CanBe i × (ts ≡ written i)
 instruction_alone [] i rest h b e = let len = ap length b in absurd (omega arith)
 instruction_alone (t ∷ ts) i rest h b e =
     let one = then_ok (instruction ts) (λ x. then (givens (End ∷ []) x.1) (λ c. Ok (x.0, c.1))) (i, rest) e in
     let two = then_ok (givens (End ∷ []) one.0.1) (λ c. Ok (one.0.0, c.1)) (i, rest) one.1.1 in
     let last = ok_pair one.0.0 i two.0.1 rest two.1.1 in
-    let is : t ∷ ts ≡ written one.0.0 ++ one.0.1 = ap (λ w. w ∷ ts) b ∙ instruction_sound ts one.0.0 one.0.1 one.1.0 in
+    let part = instruction_sound ts one.0.0 one.0.1 one.1.0 in
+    let is : t ∷ ts ≡ written one.0.0 ++ one.0.1 = ap (λ w. w ∷ ts) b ∙ part.1 in
     let none = ended one.0.1 two.0.0 two.0.1 (full_end (written one.0.0) one.0.1 (subst Full is h)) two.1.0 in
-    is ∙ ap (λ l. written one.0.0 ++ l) none ∙ append-nil (written one.0.0) ∙ ap written last.0
+    (subst CanBe last.0 part.0, is ∙ ap (λ l. written one.0.0 ++ l) none ∙ append-nil (written one.0.0) ∙ ap written last.0)
 
-begun : (s : Start) (ts : Tokens) (c : Option Call) (rest : Tokens) → Full ts → Begins (first ts) s → call_with s (others ts) ≡ Ok (c, rest) → Says ts c
-begun Nothing ts c rest h b e = subst (Says ts) (ok_pair None c (others ts) rest e).0 (passed ts h b)
+begun : (s : Start) (ts : Tokens) (c : Option Call) (rest : Tokens) → Full ts → Begins (first ts) s → call_with s (others ts) ≡ Ok (c, rest) → CanCall c × Says ts c
+begun Nothing ts c rest h b e = subst (λ d. CanCall d × Says ts d) (ok_pair None c (others ts) rest e).0 (tt, passed ts h b)
 begun GapStart ts c rest h b e =
     let one = via_sound (λ _. Some Gap) (givens (End ∷ [])) (others ts) c rest e in
-    subst (Says ts) one.1.1 (gap_alone ts one.0 rest h b one.1.0)
+    subst (λ d. CanCall d × Says ts d) one.1.1 (tt, gap_alone ts one.0 rest h b one.1.0)
 begun PrintStart ts c rest h b e =
     let one = via_sound (λ i. Some (Print i)) whole (others ts) c rest e in
-    subst (Says ts) one.1.1 (instruction_alone ts one.0 rest h b one.1.0)
+    subst (λ d. CanCall d × Says ts d) one.1.1 (instruction_alone ts one.0 rest h b one.1.0)
 
-pub call_sound : (ts : Tokens) (c : Option Call) (rest : Tokens) → Full ts → call ts ≡ Ok (c, rest) → Says ts c
+pub call_sound : (ts : Tokens) (c : Option Call) (rest : Tokens) → Full ts → call ts ≡ Ok (c, rest) → CanCall c × Says ts c
 call_sound ts c rest h e =
     let one = then_ok (taken a_call (row starts (first ts)) ts) (λ s. call_with s.0 s.1) (c, rest) e in
     let is = taken_ok a_call (row starts (first ts)) ts one.0.0 one.0.1 one.1.0 in

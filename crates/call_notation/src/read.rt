@@ -11,6 +11,7 @@ use notation::Cursor;
 // The call that the line asks for, none if it is blank or a comment, or what cannot be read in it.
 pub fn read_line(line: &[u8]) -> Result<Option<Call>, Misread<'_>>
     ensures sound { IfOk result (Says (tokens line.now)) }
+    ensures lawful { IfOk result CanCall }
     ensures complete { (c : Option Call) → CanCall c → Says (tokens line.now) c → Answers result c }
     ensures answer { Answered line.now result }
 {

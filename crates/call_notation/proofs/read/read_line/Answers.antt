@@ -13,11 +13,13 @@ returns-in-Ok c =
     let ts = tokens c.args.line.now in
     let rest = ahead c.read_call.new.cursor in
     let read : call ts ≡ Ok (c.in-Ok.call, rest) = c.in-Ok.ensures.value in
+    let said = call_sound ts c.in-Ok.call rest (tokens_full c.args.line.now) read in
     record {
-      sound = call_sound ts c.in-Ok.call rest (tokens_full c.args.line.now) read;
+      sound = said.1;
+      lawful = said.0;
       complete = λ d can says.
-          let said = call_complete ts d can says in
-          (ok_pair c.in-Ok.call d rest said.0 (sym read ∙ said.1)).0;
+          let whole = call_complete ts d can says in
+          (ok_pair c.in-Ok.call d rest whole.0 (sym read ∙ whole.1)).0;
       answer = ap (λ o. then o (λ x. Ok x.0)) read;
     }
 
@@ -30,6 +32,7 @@ returns-in-Err c =
     let told = c.token-token.ensures in
     record {
       sound = tt;
+      lawful = tt;
       complete = λ d can says.
           let said = call_complete ts d can says in
           let both : ◌≡◌ {A = Result (Option Call × Tokens) Stop} (Err stop) (Ok (d, said.0)) = sym read ∙ said.1 in
