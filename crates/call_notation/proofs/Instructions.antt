@@ -110,10 +110,9 @@ pub instruction_sound : (ts : Tokens) (i : Instruction) (rest : Tokens) → inst
 instruction_sound ts i rest e =
     let one = via_sound from_fields fields ts i rest e in
     let part = fields_faithful.sound ts one.0 rest one.1.0 in
-    let can : CanBe (from_fields one.0) = record { opcode = part.0.0.1; operands = part.0.1.0.0; four = part.0.1.0.1 } in
-    (
+    let can : CanBe (from_fields one.0) = record { opcode = part.0.0.1; operands = part.0.1.0.0; four = part.0.1.0.1 } in (
       subst CanBe one.1.1 can,
-      ap (λ l. codes "Instruction" ∷ l) part.1 ∙ ap (λ l. l ++ rest) (body_written one.0) ∙ ap (λ j. written j ++ rest) one.1.1
+      ap (λ l. codes "Instruction" ∷ l) part.1 ∙ ap (λ l. l ++ rest) (body_written one.0) ∙ ap (λ j. written j ++ rest) one.1.1,
     )
 
 abbrev fields_of : Instruction → Fields

@@ -16,16 +16,9 @@ pub fn read_line(line: &[u8]) -> Result<Option<Call>, Misread<'_>>
     ensures answer { Answered line.now result }
 {
     let mut cursor = Cursor { line, at: 0 };
+    // Kept: the closure of a `map_err` would borrow the cursor, and need a clause of its own.
     match read_call(&mut cursor) {
         Ok(call) => Ok(call),
-        Err(slip) => {
-            let token = cursor.token();
-            Err(Misread {
-                column: token.column,
-                expected: slip.expected,
-                found: token.text,
-                refusal: slip.refusal,
-            })
-        }
+        Err(slip) => Err(cursor.misread(slip)),
     }
 }

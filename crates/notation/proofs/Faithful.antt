@@ -96,14 +96,13 @@ before_faithful {X} {Can} {W} {p} gs k f = record {
       let one = then_ok (p ts) (λ a. then (givens gs a.1) (λ c. Ok (a.0, c.1))) (x, rest) e in
       let two = then_ok (givens gs one.0.1) (λ c. Ok (one.0.0, c.1)) (x, rest) one.1.1 in
       let last = ok_pair one.0.0 x two.0.1 rest two.1.1 in
-      let part = f.sound ts one.0.0 one.0.1 one.1.0 in
-      (
+      let part = f.sound ts one.0.0 one.0.1 one.1.0 in (
         subst Can last.0 part.0,
         part.1
-        ∙ ap (λ l. W one.0.0 ++ l) (givens_sound gs one.0.1 two.0.0 two.0.1 k two.1.0)
-        ∙ ap (λ y. W y ++ (texts gs ++ two.0.1)) last.0
-        ∙ ap (λ l. W x ++ (texts gs ++ l)) last.1
-        ∙ sym (append_assoc (W x) (texts gs) rest)
+            ∙ ap (λ l. W one.0.0 ++ l) (givens_sound gs one.0.1 two.0.0 two.0.1 k two.1.0)
+            ∙ ap (λ y. W y ++ (texts gs ++ two.0.1)) last.0
+            ∙ ap (λ l. W x ++ (texts gs ++ l)) last.1
+            ∙ sym (append_assoc (W x) (texts gs) rest),
       );
   complete = λ x can rest.
       ap (before p gs) (append_assoc (W x) (texts gs) rest)
@@ -119,14 +118,13 @@ both_faithful {X} {Y} {CanX} {CanY} {V} {W} {p} {q} f g = record {
       let two = then_ok (q one.0.1) (λ b. Ok ((one.0.0, b.0), b.1)) (x, rest) one.1.1 in
       let last = ok_pair (one.0.0, two.0.0) x two.0.1 rest two.1.1 in
       let left = f.sound ts one.0.0 one.0.1 one.1.0 in
-      let right = g.sound one.0.1 two.0.0 two.0.1 two.1.0 in
-      (
+      let right = g.sound one.0.1 two.0.0 two.0.1 two.1.0 in (
         subst (λ y. CanX y.0 × CanY y.1) last.0 (left.0, right.0),
         left.1
-        ∙ ap (λ l. V one.0.0 ++ l) right.1
-        ∙ sym (append_assoc (V one.0.0) (W two.0.0) two.0.1)
-        ∙ ap (λ y. (V y.0 ++ W y.1) ++ two.0.1) last.0
-        ∙ ap (λ l. (V x.0 ++ W x.1) ++ l) last.1
+            ∙ ap (λ l. V one.0.0 ++ l) right.1
+            ∙ sym (append_assoc (V one.0.0) (W two.0.0) two.0.1)
+            ∙ ap (λ y. (V y.0 ++ W y.1) ++ two.0.1) last.0
+            ∙ ap (λ l. (V x.0 ++ W x.1) ++ l) last.1,
       );
   complete = λ x can rest.
       ap (both p q) (append_assoc (V x.0) (W x.1) rest)

@@ -168,12 +168,11 @@ numbered_faithful {X} {Can} e most h f g small back forth = record {
       let one = then_ok (number e most ts) (λ n. judged e (f n.0) ts) (x, rest) r in
       let is = judged_ok e (f one.0.0) ts x rest one.1.1 in
       let was = taken_ok e (numeral most (first ts)) ts one.0.0 one.0.1 one.1.0 in
-      let from = forth one.0.0 x is.0 in
-      (
+      let from = forth one.0.0 x is.0 in (
         from.0,
         ((number_faithful e most h).sound ts one.0.0 one.0.1 one.1.0).1
-        ∙ ap (λ n. decimal n ∷ one.0.1) (sym from.1)
-        ∙ ap (λ l. decimal (g x) ∷ l) (sym was.1 ∙ is.1)
+            ∙ ap (λ n. decimal n ∷ one.0.1) (sym from.1)
+            ∙ ap (λ l. decimal (g x) ∷ l) (sym was.1 ∙ is.1),
       );
   complete = λ x can rest.
       ap (λ o. then o (λ n. judged e (f n.0) (decimal (g x) ∷ rest))) ((number_faithful e most h).complete (g x) (small x can) rest)
@@ -334,13 +333,12 @@ distance_sound ts z rest e = by (bytes_eq (first ts) (codes "-")) refl e
         let is = judged_ok Distance (negative one.0.0) (others ts) z rest one.1.1 in
         let was = taken_ok Distance (numeral 2147483648 (first (others ts))) (others ts) one.0.0 one.0.1 one.1.0 in
         let part = (number_faithful Distance 2147483648 (omega arith)).sound (others ts) one.0.0 one.0.1 one.1.0 in
-        let from = minus_is one.0.0 z part.0 is.0 in
-        (
+        let from = minus_is one.0.0 z part.0 is.0 in (
           from.0,
           first_is (codes "-") ts (omega arith) ((bytes_eq-Decides _ _).0 s)
-          ∙ ap (λ l. codes "-" ∷ l) part.1
-          ∙ ap (λ l. codes "-" ∷ decimal one.0.0 ∷ l) (sym was.1 ∙ is.1)
-          ∙ sym (ap (λ l. l ++ rest) from.1)
+              ∙ ap (λ l. codes "-" ∷ l) part.1
+              ∙ ap (λ l. codes "-" ∷ decimal one.0.0 ∷ l) (sym was.1 ∙ is.1)
+              ∙ sym (ap (λ l. l ++ rest) from.1),
         )
     by false s e =
         let one = via_sound pos (number Distance 2147483647) ts z rest e in

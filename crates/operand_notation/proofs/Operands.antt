@@ -1,5 +1,5 @@
 -- Operands are read as they are written. Assumes nothing.
-use Rattle.std.proofs.Common.{◌≡◌, ℕ, ◌≤◌, List, [], ◌∷◌, ◌++◌, length, Some, Ok, codes, sym, refl, ap, ◌∙◌, subst, append_assoc, arith}
+use Rattle.std.proofs.Common.{◌≡◌, ℕ, List, [], ◌∷◌, ◌++◌, length, Some, Ok, codes, sym, refl, ap, ◌∙◌, subst, append_assoc, arith}
 use Rattle.armv7.specs.declared.operand.Operand.{Operand}
 use Rattle.armv7.specs.declared.operand.Operand.TheVariants.{Reg as in_reg, RegWBack, RegList, RegDeref, RegShift as in_shift, RegDerefPostindexRegShift, RegDerefPreindexRegShift, RegDerefPostindexOffset, RegDerefPreindexOffset, RegDerefPostindexReg, RegDerefPreindexReg, Imm12, Imm32, BranchOffset, BranchThumbOffset, Coprocessor as in_coprocessor, CoprocOption, CReg as in_creg, BankedReg, BankedSPSR, StatusRegMask as in_mask, APSR, SPSR, CPSR, Nothing}
 use Rattle.misreading.specs.declared.misread.Expected.TheVariants.{Operand as an_operand, Code as a_code, Halfword as a_halfword, Word as a_word}
