@@ -1,9 +1,11 @@
-// Takes tokens off a line.
+// Takes tokens off a line, and tells where one is not what was expected.
 ghost use Rattle.std.specs.Prelude.{◌≡◌, ℕ, ◌+◌, ◌-◌, ◌<◌, ◌≤◌, true, false, length, drop, slice_index};
 ghost use Rattle.notation.specs.Places.{ahead, Stands};
+ghost use Rattle.notation.specs.Reads.{stop, Tells};
 ghost use Rattle.notation.specs.Tokens.{blank, wordy, tokens, first, others, Takes};
 
-use crate::cursor::Cursor;
+use crate::cursor::{Cursor, Slip};
+use misreading::Misread;
 
 fn is_blank(b: u8) -> bool
     ensures { result ≡ blank b }
@@ -82,6 +84,19 @@ impl<'a> Cursor<'a> {
             column: start + 1,
             text: &self.line[start..end],
             end,
+        }
+    }
+
+    // What is said of the next token, where this is wrong with it.
+    pub fn misread(&self, slip: Slip) -> Misread<'a>
+        ensures tells { Tells self.now.line.now result (stop slip (ahead self.now)) }
+    {
+        let token = self.token();
+        Misread {
+            column: token.column,
+            expected: slip.expected,
+            found: token.text,
+            refusal: slip.refusal,
         }
     }
 }
