@@ -1,9 +1,9 @@
 // The ways to print an instruction, by its opcode.
 #![tactic(auto)]
 
-ghost use Rattle.std.specs.Prelude.{◌≡◌, [], ◌∷◌};
+ghost use Rattle.std.specs.Prelude.{◌≡◌, ◌∷◌};
 ghost use Rattle.opcode.specs.Forms.{form, coprocessor as of_coprocessor};
-ghost use Rattle.kind.specs.Kinds.{form_of, suffixes_of};
+ghost use Rattle.kind.specs.Kinds.{form_of, optional, suffixes_of};
 
 use opcode::Opcode;
 
@@ -48,36 +48,14 @@ pub enum Kind {
     Plain,
 }
 
-fn one(suffixes: Suffixes, number: u8) -> Kind
-    ensures { form_of result ≡ of_coprocessor (suffixes_of suffixes) (number ∷ []) [] }
+fn coprocessor(suffixes: Suffixes, coprocessor: u8, second: Option<u8>, third: Option<u8>) -> Kind
+    ensures { form_of result ≡ of_coprocessor (suffixes_of suffixes) (coprocessor ∷ optional second) (optional third) }
 {
     Kind::Coprocessor(Codes {
         suffixes,
-        coprocessor: number,
-        second: None,
-        third: None,
-    })
-}
-
-fn two(suffixes: Suffixes, number: u8, second: u8) -> Kind
-    ensures { form_of result ≡ of_coprocessor (suffixes_of suffixes) (number ∷ second ∷ []) [] }
-{
-    Kind::Coprocessor(Codes {
-        suffixes,
-        coprocessor: number,
-        second: Some(second),
-        third: None,
-    })
-}
-
-fn three(number: u8, second: u8, third: u8) -> Kind
-    ensures { form_of result ≡ of_coprocessor (suffixes_of Suffixes.Bare) (number ∷ second ∷ []) (third ∷ []) }
-{
-    Kind::Coprocessor(Codes {
-        suffixes: Suffixes::Bare,
-        coprocessor: number,
-        second: Some(second),
-        third: Some(third),
+        coprocessor,
+        second,
+        third,
     })
 }
 
@@ -106,21 +84,17 @@ pub fn kind_by(opcode: Opcode) -> Kind
         Opcode::IT => Kind::It,
         Opcode::CPS(_) => Kind::Cps,
         Opcode::SETEND => Kind::Setend,
-        Opcode::LDC(a) => one(Suffixes::Conditional, a),
-        Opcode::LDCL(a) => one(Suffixes::Conditional, a),
-        Opcode::LDC2(a) => one(Suffixes::Bare, a),
-        Opcode::LDC2L(a) => one(Suffixes::Bare, a),
-        Opcode::STC(a) => one(Suffixes::Conditional, a),
-        Opcode::STCL(a) => one(Suffixes::Conditional, a),
-        Opcode::STC2(a) => one(Suffixes::Bare, a),
-        Opcode::STC2L(a) => one(Suffixes::Bare, a),
-        Opcode::MCRR2(a, b) => two(Suffixes::Bare, a, b),
-        Opcode::MRRC2(a, b) => two(Suffixes::Bare, a, b),
-        Opcode::MCRR(a, b) => two(Suffixes::Full, a, b),
-        Opcode::MRRC(a, b) => two(Suffixes::Full, a, b),
-        Opcode::MCR2(a, b, c) => three(a, b, c),
-        Opcode::MRC2(a, b, c) => three(a, b, c),
-        Opcode::CDP2(a, b, c) => three(a, b, c),
+        Opcode::LDC(a) | Opcode::LDCL(a) | Opcode::STC(a) | Opcode::STCL(a) => {
+            coprocessor(Suffixes::Conditional, a, None, None)
+        }
+        Opcode::LDC2(a) | Opcode::LDC2L(a) | Opcode::STC2(a) | Opcode::STC2L(a) => {
+            coprocessor(Suffixes::Bare, a, None, None)
+        }
+        Opcode::MCRR2(a, b) | Opcode::MRRC2(a, b) => coprocessor(Suffixes::Bare, a, Some(b), None),
+        Opcode::MCRR(a, b) | Opcode::MRRC(a, b) => coprocessor(Suffixes::Full, a, Some(b), None),
+        Opcode::MCR2(a, b, c) | Opcode::MRC2(a, b, c) | Opcode::CDP2(a, b, c) => {
+            coprocessor(Suffixes::Bare, a, Some(b), Some(c))
+        }
         _ => Kind::Plain,
     }
 }

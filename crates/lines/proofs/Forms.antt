@@ -1,16 +1,11 @@
--- What is refused, and what is printed, by the form that the code finds. Assumes nothing.
-use Rattle.std.proofs.Common.{◌≡◌, None, Option, ap, ◌∙◌}
+-- What is not refused, and what is printed, by the form that the code finds. Assumes nothing.
+use Rattle.std.proofs.Common.{◌≡◌, None, ap, ◌∙◌}
 use Rattle.armv7.specs.declared.instruction.Instruction.{Instruction}
-use Rattle.armv7.specs.Faults.{Refusal}
 use Rattle.opcode.specs.Forms.{Form, form}
 use Rattle.lines.specs.Admission.{refused_by, refused}
 use Rattle.lines.specs.Lines.{parts_by, line_of, line}
 
 module _ (i : Instruction) (f : Form) (found : f ≡ form i.opcode) where
-  pub refused_at : {o : Option Refusal} → o ≡ refused_by f i → o ≡ refused i
-  unfolding refused
-  refused_at h = h ∙ ap (λ g. refused_by g i) found
-
   pub clean_at : refused i ≡ None → refused_by f i ≡ None
   unfolding refused
   clean_at h = ap (λ g. refused_by g i) found ∙ h

@@ -1,3 +1,5 @@
 pub mod Aliases
 pub mod Forms
 pub mod Numbers
+pub mod Shown
+pub mod Tried

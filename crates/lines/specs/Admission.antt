@@ -1,5 +1,5 @@
 -- Which instructions are not printed, and why. Assumes nothing.
-use Rattle.std.specs.Prelude.{ℕ, suc, cond, ◌&&◌, List, [], ◌∷◌, ◌++◌, Some, None, Option, nat_lt}
+use Rattle.std.specs.Prelude.{◌≡◌, ℕ, suc, cond, ◌&&◌, List, [], ◌∷◌, ◌++◌, Some, None, Option, nat_lt}
 use Rattle.armv7.specs.declared.instruction.Instruction.{Instruction}
 use Rattle.armv7.specs.declared.operand.Operand.{Operand}
 use Rattle.armv7.specs.Faults.{Refusal, refused_with, no_operand}
@@ -12,6 +12,10 @@ use Rattle.lines.specs.Lines.{operand, shape_at, four}
 abbrev pub first_of : Option Refusal → Option Refusal → Option Refusal
 first_of (Some f) g = Some f
 first_of None g = g
+
+-- the operand has a text
+abbrev pub HasText : Operand → Type 0
+HasText o = operand_refused 0 o ≡ None
 
 abbrev pub no_refusal : Option Refusal
 no_refusal = None

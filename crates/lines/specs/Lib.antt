@@ -1,3 +1,4 @@
 pub mod Admission
 pub mod Codes
+pub mod Forms
 pub mod Lines

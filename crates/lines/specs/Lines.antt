@@ -25,8 +25,12 @@ operand n i = slice_index_or i.operands n (One R0)
 abbrev pub shape_at : ℕ → Instruction → Shape
 shape_at n i = shape (operand n i)
 
+-- the four of them
+abbrev pub all_of : List Operand → List Operand
+all_of os = slice_index_or os 0 (One R0) ∷ slice_index_or os 1 (One R0) ∷ slice_index_or os 2 (One R0) ∷ slice_index_or os 3 (One R0) ∷ []
+
 abbrev pub four : Instruction → List Operand
-four i = operand 0 i ∷ operand 1 i ∷ operand 2 i ∷ operand 3 i ∷ []
+four i = all_of i.operands
 
 -- those before the first Nothing
 abbrev pub reached : List Operand → List Operand
@@ -192,5 +196,8 @@ behind_word (r ∷ rs) = text_items (codes " ") ++ joined (r ∷ rs)
 abbrev pub line_of : Parts → List Item
 line_of p = word_items p.word ++ behind_word p.rows
 
+abbrev pub parts : Instruction → Parts
+parts i = parts_by (form i.opcode) i
+
 unfoldable pub line : Instruction → List Item
-line i = line_of (parts_by (form i.opcode) i)
+line i = line_of (parts i)

@@ -1,14 +1,41 @@
-// Which instructions are printed: the checks, in their order.
-ghost use Rattle.std.specs.Prelude.{◌≡◌, [], ◌∷◌, ◌++◌};
+// Which instructions are printed, and as what: the checks, in their order.
+ghost use Rattle.std.specs.Prelude.{◌≡◌, [], ◌∷◌, ◌++◌, IfOk};
 ghost use Rattle.armv7.specs.Faults.{place_index};
+ghost use Rattle.opcode.specs.Forms.{form, block, it, cps, setend, plain, coprocessor};
 ghost use Rattle.sink.specs.Outcome.{outcome};
-ghost use Rattle.kind.specs.Kinds.{optional};
+ghost use Rattle.kind.specs.Kinds.{optional, suffixes_of};
 ghost use Rattle.visitor.specs.Operands.{operand_refused};
 ghost use Rattle.visitor.specs.Shapes.{shape, no_more as no_operand_there};
-ghost use Rattle.lines.specs.Admission.{codes_refused, block_shape, it_shape, cps_shape, setend_shape, reached_refused, refused};
+ghost use Rattle.lines.specs.Admission.{codes_refused, reached_refused, refused};
+ghost use Rattle.lines.specs.Codes.{mode_of};
+ghost use Rattle.lines.specs.Forms.{parts_of, moved_in, moved, one_form, AdmittedAs};
+ghost use Rattle.lines.specs.Lines.{all_of, reached, parts};
 
-use armv7::{Fault, Instruction, Operand, Place};
-use kind::{Codes, Kind, kind_by};
+use crate::alias::{stack_register, stacks};
+use crate::form::{Block, Form, ItBlock, Reached};
+use armv7::{ConditionCode, Fault, Instruction, Operand, Place};
+use kind::{Codes, Kind, Transfer, kind_by};
+
+const PLACES: [Place; 4] = [Place::First, Place::Second, Place::Third, Place::Fourth];
+
+// By the manual's numbers.
+const CONDITIONS: [ConditionCode; 15] = [
+    ConditionCode::EQ,
+    ConditionCode::NE,
+    ConditionCode::HS,
+    ConditionCode::LO,
+    ConditionCode::MI,
+    ConditionCode::PL,
+    ConditionCode::VS,
+    ConditionCode::VC,
+    ConditionCode::HI,
+    ConditionCode::LS,
+    ConditionCode::GE,
+    ConditionCode::LT,
+    ConditionCode::GT,
+    ConditionCode::LE,
+    ConditionCode::AL,
+];
 
 // Is the operand missing?
 pub fn is_nothing(operand: Operand) -> bool
@@ -17,79 +44,6 @@ pub fn is_nothing(operand: Operand) -> bool
     match operand {
         Operand::Nothing => true,
         _ => false,
-    }
-}
-
-// A code is a number up to 15.
-fn admit_code(code: u8) -> Result<(), Fault>
-    ensures { outcome result ≡ codes_refused (code ∷ []) }
-{
-    if code > 15 {
-        return Err(Fault::CodeNumber);
-    }
-    Ok(())
-}
-
-fn admit_block(
-    first: Operand,
-    second: Operand,
-    third: Operand,
-    fourth: Operand,
-) -> Result<(), Fault>
-    ensures { outcome result ≡ block_shape (shape first) (shape second) (shape third) (shape fourth) }
-{
-    let Operand::RegWBack(_, _) = first else {
-        return Err(Fault::Shape);
-    };
-    let Operand::RegList(_) = second else {
-        return Err(Fault::Shape);
-    };
-    if is_nothing(third) && is_nothing(fourth) {
-        Ok(())
-    } else {
-        Err(Fault::Shape)
-    }
-}
-
-fn admit_it(first: Operand, second: Operand) -> Result<(), Fault>
-    ensures { outcome result ≡ it_shape (shape first) (shape second) }
-{
-    let Operand::Imm32(condition) = first else {
-        return Err(Fault::Shape);
-    };
-    let Operand::Imm32(mask) = second else {
-        return Err(Fault::Shape);
-    };
-    if condition > 14 {
-        return Err(Fault::Field(Place::First));
-    }
-    if mask > 15 {
-        return Err(Fault::Field(Place::Second));
-    }
-    Ok(())
-}
-
-fn admit_cps(first: Operand, second: Operand) -> Result<(), Fault>
-    ensures { outcome result ≡ cps_shape (shape first) second }
-{
-    let Operand::Imm12(flags) = first else {
-        return Err(Fault::Shape);
-    };
-    if flags > 7 {
-        return Err(Fault::Field(Place::First));
-    }
-    if is_nothing(second) {
-        return Ok(());
-    }
-    admit_operand(second, Place::Second)
-}
-
-fn admit_setend(first: Operand) -> Result<(), Fault>
-    ensures { outcome result ≡ setend_shape (shape first) }
-{
-    match first {
-        Operand::Imm12(_) => Ok(()),
-        _ => Err(Fault::Shape),
     }
 }
 
@@ -125,31 +79,36 @@ fn admit_operand(operand: Operand, place: Place) -> Result<(), Fault>
     }
 }
 
-// The operands before the first Nothing, from the left.
-fn admit_reached(
-    first: Operand,
-    second: Operand,
-    third: Operand,
-    fourth: Operand,
-) -> Result<(), Fault>
-    ensures { outcome result ≡ reached_refused 0 (first ∷ second ∷ third ∷ fourth ∷ []) }
+// The operands before the first Nothing.
+fn admit_reached(operands: &[Operand; 4]) -> Result<Reached<'_>, Fault>
+    ensures refusal { outcome result ≡ reached_refused 0 (all_of operands.now) }
+    ensures value { IfOk result (λ r. r.operands.now ≡ reached (all_of operands.now)) }
 {
-    if is_nothing(first) {
-        return Ok(());
+    for (index, operand) in operands.iter().enumerate() {
+        if is_nothing(*operand) {
+            return Ok(Reached {
+                operands: &operands[0..index],
+            });
+        }
+        admit_operand(*operand, PLACES[index])?;
     }
-    admit_operand(first, Place::First)?;
-    if is_nothing(second) {
-        return Ok(());
+    Ok(Reached { operands })
+}
+
+fn admit_plain(instruction: &Instruction) -> Result<Form<'_>, Fault>
+    ensures { AdmittedAs plain instruction.now result }
+{
+    Ok(Form::Plain(admit_reached(&instruction.operands)?))
+}
+
+// A code is a number up to 15.
+fn admit_code(code: u8) -> Result<(), Fault>
+    ensures { outcome result ≡ codes_refused (code ∷ []) }
+{
+    if code > 15 {
+        return Err(Fault::CodeNumber);
     }
-    admit_operand(second, Place::Second)?;
-    if is_nothing(third) {
-        return Ok(());
-    }
-    admit_operand(third, Place::Third)?;
-    if is_nothing(fourth) {
-        return Ok(());
-    }
-    admit_operand(fourth, Place::Fourth)
+    Ok(())
 }
 
 fn admit_optional(code: Option<u8>) -> Result<(), Fault>
@@ -170,24 +129,123 @@ fn admit_codes(codes: Codes) -> Result<(), Fault>
     admit_optional(codes.third)
 }
 
-// Answers why the instruction is not printed, if it is not.
-pub fn admit(instruction: &Instruction) -> Result<(), Fault>
-    ensures refusal { outcome result ≡ refused instruction.now }
+fn admit_coprocessor(codes: Codes, instruction: &Instruction) -> Result<Form<'_>, Fault>
+    ensures { AdmittedAs (coprocessor (suffixes_of codes.suffixes) (codes.coprocessor ∷ optional codes.second) (optional codes.third)) instruction.now result }
+{
+    admit_codes(codes)?;
+    Ok(Form::Coprocessor(codes, admit_reached(&instruction.operands)?))
+}
+
+fn admit_block(transfer: Transfer, instruction: &Instruction) -> Result<Form<'_>, Fault>
+    ensures { AdmittedAs (block transfer.load transfer.add transfer.pre transfer.wback transfer.user) instruction.now result }
 {
     let [first, second, third, fourth] = instruction.operands;
-    match kind_by(instruction.opcode) {
-        Kind::Block(_) => admit_block(first, second, third, fourth),
-        Kind::It => admit_it(first, second),
-        Kind::Cps => admit_cps(first, second),
-        Kind::Setend => admit_setend(first),
-        Kind::Coprocessor(codes) => {
-            admit_codes(codes)?;
-            admit_reached(first, second, third, fourth)
+    let Operand::RegWBack(base, wback) = first else {
+        return Err(Fault::Shape);
+    };
+    let Operand::RegList(mask) = second else {
+        return Err(Fault::Shape);
+    };
+    if !is_nothing(third) || !is_nothing(fourth) {
+        return Err(Fault::Shape);
+    }
+    let block = Block {
+        transfer,
+        base,
+        wback,
+        mask,
+    };
+    if stacks(transfer, base, wback) {
+        Ok(Form::Stack(block))
+    } else {
+        Ok(Form::Block(block))
+    }
+}
+
+fn admit_one(load: bool, instruction: &Instruction) -> Result<Form<'_>, Fault>
+    ensures { AdmittedAs (one_form load) instruction.now result }
+{
+    let operands = admit_reached(&instruction.operands)?;
+    match stack_register(load, &instruction.operands) {
+        Some(reg) => Ok(Form::One { load, reg }),
+        None => Ok(Form::Plain(operands)),
+    }
+}
+
+fn admit_it(instruction: &Instruction) -> Result<Form<'_>, Fault>
+    ensures { AdmittedAs it instruction.now result }
+{
+    let [first, second, _, _] = instruction.operands;
+    let Operand::Imm32(condition) = first else {
+        return Err(Fault::Shape);
+    };
+    let Operand::Imm32(mask) = second else {
+        return Err(Fault::Shape);
+    };
+    if condition > 14 {
+        return Err(Fault::Field(Place::First));
+    }
+    if mask > 15 {
+        return Err(Fault::Field(Place::Second));
+    }
+    let condition = CONDITIONS[condition as usize];
+    Ok(Form::It(ItBlock { condition, mask }))
+}
+
+// The mode that a CPS changes to, if it has one.
+fn admit_mode(operand: Operand) -> Result<Option<u16>, Fault>
+    ensures refusal { outcome result ≡ reached_refused 1 (operand ∷ []) }
+    ensures value { IfOk result (λ m. m ≡ mode_of (shape operand)) }
+{
+    match operand {
+        Operand::Imm12(mode) => Ok(Some(mode)),
+        Operand::Nothing => Ok(None),
+        _ => {
+            admit_operand(operand, Place::Second)?;
+            Ok(None)
         }
-        Kind::LoadOne => admit_reached(first, second, third, fourth),
-        Kind::StoreOne => admit_reached(first, second, third, fourth),
-        Kind::Pop => admit_reached(first, second, third, fourth),
-        Kind::Push => admit_reached(first, second, third, fourth),
-        Kind::Plain => admit_reached(first, second, third, fourth),
+    }
+}
+
+fn admit_cps(instruction: &Instruction) -> Result<Form<'_>, Fault>
+    ensures { AdmittedAs cps instruction.now result }
+{
+    let [first, second, _, _] = instruction.operands;
+    let Operand::Imm12(flags) = first else {
+        return Err(Fault::Shape);
+    };
+    if flags > 7 {
+        return Err(Fault::Field(Place::First));
+    }
+    let mode = admit_mode(second)?;
+    Ok(Form::Cps { flags, mode })
+}
+
+fn admit_setend(instruction: &Instruction) -> Result<Form<'_>, Fault>
+    ensures { AdmittedAs setend instruction.now result }
+{
+    let [first, _, _, _] = instruction.operands;
+    match first {
+        Operand::Imm12(number) => Ok(Form::Setend { number }),
+        _ => Err(Fault::Shape),
+    }
+}
+
+// What the line of the instruction shows, or why it has none.
+#[tactic(auto, unfolding(crate::specs::Admission::refused))]
+pub fn admit(instruction: &Instruction) -> Result<Form<'_>, Fault>
+    ensures refusal { outcome result ≡ refused instruction.now }
+    ensures shown { IfOk result (λ f. parts_of f instruction.now ≡ parts instruction.now) }
+    ensures moves { IfOk result (λ f. moved_in f ≡ moved instruction.now) }
+{
+    match kind_by(instruction.opcode) {
+        Kind::Block(transfer) => admit_block(transfer, instruction),
+        Kind::LoadOne => admit_one(true, instruction),
+        Kind::StoreOne => admit_one(false, instruction),
+        Kind::It => admit_it(instruction),
+        Kind::Cps => admit_cps(instruction),
+        Kind::Setend => admit_setend(instruction),
+        Kind::Coprocessor(codes) => admit_coprocessor(codes, instruction),
+        Kind::Pop | Kind::Push | Kind::Plain => admit_plain(instruction),
     }
 }

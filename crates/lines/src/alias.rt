@@ -1,42 +1,33 @@
 // The four forms that are printed under another name.
 ghost use Rattle.std.specs.Prelude.{◌≡◌};
 ghost use Rattle.visitor.specs.Shapes.{shape};
-ghost use Rattle.lines.specs.Codes.{popped, pushed, on_stack};
-ghost use Rattle.lines.specs.Lines.{stack_direction};
+ghost use Rattle.lines.specs.Codes.{popped, pushed, on_stack, one_on_stack};
+ghost use Rattle.lines.specs.Lines.{stack_direction, stack_name};
 
 use crate::admission::is_nothing;
 use armv7::{Operand, Reg};
 use kind::Transfer;
 
-// The register that a load pops, if it is a pop.
-pub fn pop_one(first: Operand, second: Operand, third: Operand, fourth: Operand) -> Option<Reg>
-    ensures register { result ≡ popped (shape first) (shape second) (shape third) (shape fourth) }
+// The register of a load that is a pop, or of a store that is a push.
+pub fn stack_register(load: bool, operands: &[Operand; 4]) -> Option<Reg>
+    ensures register { result ≡ one_on_stack load operands.now }
 {
+    let [first, second, third, fourth] = *operands;
     let Operand::Reg(target) = first else {
         return None;
     };
     match second {
         Operand::RegDerefPostindexOffset(base, offset, add, wback)
-            if base.number() == 13
+            if load
+                && base.number() == 13
                 && offset == 4
                 && add
                 && !wback
                 && is_nothing(third)
                 && is_nothing(fourth) => Some(target),
-        _ => None,
-    }
-}
-
-// The register that a store pushes, if it is a push.
-pub fn push_one(first: Operand, second: Operand, third: Operand, fourth: Operand) -> Option<Reg>
-    ensures register { result ≡ pushed (shape first) (shape second) (shape third) (shape fourth) }
-{
-    let Operand::Reg(target) = first else {
-        return None;
-    };
-    match second {
         Operand::RegDerefPreindexOffset(base, offset, add, wback)
-            if base.number() == 13
+            if !load
+                && base.number() == 13
                 && offset == 4
                 && !add
                 && wback
@@ -44,6 +35,20 @@ pub fn push_one(first: Operand, second: Operand, third: Operand, fourth: Operand
                 && is_nothing(fourth) => Some(target),
         _ => None,
     }
+}
+
+// The register that a load pops, if it is a pop.
+pub fn pop_one(first: Operand, second: Operand, third: Operand, fourth: Operand) -> Option<Reg>
+    ensures register { result ≡ popped (shape first) (shape second) (shape third) (shape fourth) }
+{
+    stack_register(true, &[first, second, third, fourth])
+}
+
+// The register that a store pushes, if it is a push.
+pub fn push_one(first: Operand, second: Operand, third: Operand, fourth: Operand) -> Option<Reg>
+    ensures register { result ≡ pushed (shape first) (shape second) (shape third) (shape fourth) }
+{
+    stack_register(false, &[first, second, third, fourth])
 }
 
 // Whether a block transfer goes the way of a pop or a push.
@@ -62,4 +67,11 @@ pub fn stacks(transfer: Transfer, base: Reg, wback: bool) -> bool
         && !transfer.wback
         && !transfer.user
         && on_sp
+}
+
+// What a pop or a push is called.
+pub fn stack_word(load: bool) -> &'static [u8]
+    ensures name { result.now ≡ stack_name load }
+{
+    if load { b"pop" } else { b"push" }
 }

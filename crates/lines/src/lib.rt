@@ -1,8 +1,14 @@
-// Lines: which instructions have one, what it is, and which are printed under another name.
+// Lines: which instructions have one, what it shows, and which are printed under another name.
 #![tactic(auto)]
 
 mod admission;
 mod alias;
+mod form;
+mod letters;
+mod suffix;
 
 pub use admission::{admit, is_nothing};
-pub use alias::{pop_one, push_one, stacks};
+pub use alias::{pop_one, push_one, stack_register, stack_word, stacks};
+pub use form::{Block, Form, ItBlock, Reached};
+pub use letters::letter_count;
+pub use suffix::Suffix;

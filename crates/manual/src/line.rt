@@ -3,7 +3,7 @@ ghost use Rattle.std.specs.Prelude.{◌≡◌, [], ◌∷◌, ◌++◌, IfOk, So
 ghost use Rattle.sink.specs.Outcome.{outcome};
 ghost use Rattle.sink.specs.Printed.{Printed};
 ghost use Rattle.visitor.specs.Visits.{PrintedUnless};
-ghost use Rattle.lines.specs.Admission.{first_of};
+ghost use Rattle.lines.specs.Admission.{first_of, refused};
 ghost use Rattle.lines.specs.Lines.{stack_name, behind_word, line_of};
 ghost use Rattle.manual.specs.Lines.{block_name, one_row, one_parts, block_parts, transfer_parts, no_form, manual_refused, manual_line};
 
@@ -91,6 +91,14 @@ fn write_transfer<T: DisplaySink>(
     }
 }
 
+// Why the instruction is not printed, if it is not.
+fn try_to_admit(instruction: &Instruction) -> Result<(), Fault>
+    ensures refusal { outcome result ≡ refused instruction.now }
+{
+    admit(instruction)?;
+    Ok(())
+}
+
 // What is to be written: the refusals of an instruction that is not admitted come first.
 fn in_order(admitted: Result<(), Fault>, found: Option<Transfer>) -> Result<Transfer, Fault>
     ensures told { outcome result ≡ first_of (outcome admitted) (no_form found) }
@@ -109,6 +117,6 @@ pub fn visit_manual<T: DisplaySink>(instruction: &Instruction, out: &mut T) -> R
 {
     let [first, second, third, fourth] = instruction.operands;
     let found = transfer_of(instruction.opcode, first, second, third, fourth);
-    let transfer = in_order(admit(instruction), found)?;
+    let transfer = in_order(try_to_admit(instruction), found)?;
     write_transfer(transfer, instruction.condition, instruction.thumb_w, out)
 }

@@ -1,0 +1,45 @@
+// What the line of an instruction shows, besides its name and its suffixes.
+ghost use Rattle.std.specs.Prelude.{All};
+ghost use Rattle.lines.specs.Admission.{HasText};
+
+use armv7::{ConditionCode, Operand, Reg};
+use kind::{Codes, Transfer};
+
+// Operands that have a text, all of them.
+#[derive(Clone, Copy)]
+pub struct Reached<'a> {
+    pub operands: &'a [Operand],
+    ghost clean: { All HasText operands.now },
+}
+
+// A block transfer: its base, whether that is written back, and the registers by the bits 0 to 15.
+#[derive(Clone, Copy)]
+pub struct Block {
+    pub transfer: Transfer,
+    pub base: Reg,
+    pub wback: bool,
+    pub mask: u16,
+}
+
+// The condition of an IT block, and the mask that says of which instructions it is that, and of which the opposite.
+#[derive(Clone, Copy)]
+pub struct ItBlock {
+    pub condition: ConditionCode,
+    pub mask: u32,
+}
+
+#[derive(Clone, Copy)]
+pub enum Form<'a> {
+    Plain(Reached<'a>),
+    // The operands stand between the codes.
+    Coprocessor(Codes, Reached<'a>),
+    // A block transfer under its own name: base and list.
+    Block(Block),
+    // One that is a pop or a push: the list alone.
+    Stack(Block),
+    // A load or a store that is a pop or a push: its register alone.
+    One { load: bool, reg: Reg },
+    It(ItBlock),
+    Cps { flags: u16, mode: Option<u16> },
+    Setend { number: u16 },
+}
