@@ -1,7 +1,7 @@
 -- Operands that are written one after the other, each behind a comma. Assumes nothing.
-use Rattle.std.proofs.Common.{◌≡◌, ℕ, suc, ◌+◌, ◌<◌, ◌≤◌, Bool, true, false, cond, List, [], ◌∷◌, ◌++◌, map, length, get_or, take, drop, IsErrAnd, Some, None, codes, Option, Result, sym, refl, ap, ◌∙◌, subst, append_assoc, append-nil, add-one, arith, drop-cons}
+use Rattle.std.proofs.Common.{◌≡◌, ℕ, suc, ◌+◌, ◌-◌, ◌<◌, ◌≤◌, Bool, true, false, cond, List, [], ◌∷◌, ◌++◌, All, map, length, get_or, take, drop, IsErrAnd, Some, None, codes, Option, Result, sym, refl, ap, ◌∙◌, subst, append_assoc, append-nil, add-one, arith, drop-cons}
 use mathlib.Core.List.{map-append}
-use Rattle.std.proofs.lemmas.List.{take_more, drop_all}
+use Rattle.std.proofs.lemmas.List.{take_more, take_all, take-append-drop}
 use Rattle.armv7.specs.declared.fault.Fault.{Fault}
 use Rattle.armv7.specs.declared.operand.Operand.{Operand}
 use Rattle.armv7.specs.declared.operand.Operand.TheVariants.{Reg as One}
@@ -11,14 +11,13 @@ use Rattle.sink.specs.Items.{Item, text_items}
 use Rattle.sink.specs.Meaning.{Meaning, Laws}
 use Rattle.sink.specs.Printed.{Printed}
 use Rattle.sink.specs.Outcome.{outcome}
-use Rattle.sink.proofs.Chain.{both, stop, nothing}
+use Rattle.sink.proofs.Chain.{both, stop}
 use Rattle.visitor.specs.Operands.{operand_items, operand_refused}
 use Rattle.visitor.specs.Shapes.{shape, no_more}
 use Rattle.visitor.specs.Texts.{followed}
 use Rattle.visitor.specs.Visits.{PrintedUnless}
 use Rattle.visitor.proofs.Pieces.{renamed}
-use Rattle.lines.specs.Admission.{first_of, reached_refused}
-use Rattle.lines.specs.Lines.{reached}
+use Rattle.lines.specs.Admission.{first_of, reached_refused, HasText}
 
 pub followed_append : (xs ys : List (List Item)) → followed (xs ++ ys) ≡ followed xs ++ followed ys
 followed_append [] ys = refl
@@ -54,86 +53,56 @@ first_clean o os some e =
 pub printed_at : {S : Type 0} {meaning : S → Meaning} {kept : S → S → Type 0} (o : Operand) {s t : S} {r : Option Refusal} → operand_refused 0 o ≡ None → PrintedUnless meaning kept (operand_refused 0 o) (operand_items o) s r t → Printed meaning kept (operand_items o) s r t
 printed_at {meaning = meaning} {kept} o {s} {t} {r} e p = subst (λ f. PrintedUnless meaning kept f (operand_items o) s r t) e p
 
--- the first i operands were reached, and written
-pub record Sofar {S : Type 0} (meaning : S → Meaning) (kept : S → S → Type 0) (os : List Operand) (i : ℕ) (s t : S) : Type 0 where
-  pub written : Printed meaning kept (followed (map operand_items (take i os))) s None t
-  pub split : reached os ≡ take i os ++ reached (drop i os)
-  pub place : ℕ
-  pub clean : reached_refused place (drop i os) ≡ None
+-- the first i operands were written
+abbrev pub Sofar : {S : Type 0} → (S → Meaning) → (S → S → Type 0) → List Operand → ℕ → S → S → Type 0
+Sofar meaning kept os i s t = Printed meaning kept (followed (map operand_items (take i os))) s None t
 
 -- the operand at a place, as the code reads it
-abbrev at : List Operand → ℕ → Operand
+abbrev pub at : List Operand → ℕ → Operand
 at os i = get_or os i (One R0)
 
-module _ (os : List Operand) (i : ℕ) (within : i < length os) where
-  here : drop i os ≡ at os i ∷ drop (i + 1) os
-  here = drop-cons os i (One R0) within ∙ ap (λ n. at os i ∷ drop n os) (sym (add-one i))
-
-  pub last_reached : true ≡ no_more (shape (at os i)) → reached (drop i os) ≡ []
-  last_reached e = ap reached here ∙ ap (λ b. cond b [] (at os i ∷ reached (drop (i + 1) os))) (sym e)
-
-  next_reached : false ≡ no_more (shape (at os i)) → reached (drop i os) ≡ at os i ∷ reached (drop (i + 1) os)
-  next_reached e = ap reached here ∙ ap (λ b. cond b [] (at os i ∷ reached (drop (i + 1) os))) (sym e)
-
-  next_clean : (p : ℕ) → false ≡ no_more (shape (at os i)) → reached_refused p (drop i os) ≡ None → (operand_refused 0 (at os i) ≡ None) × (reached_refused (suc p) (drop (i + 1) os) ≡ None)
-  next_clean p e c =
-      let parts = both_none (operand_refused p (at os i)) (reached_refused (suc p) (drop (i + 1) os))
-      (sym (ap (reached_refused p) here ∙ ap (λ b. cond b None (first_of (operand_refused p (at os i)) (reached_refused (suc p) (drop (i + 1) os)))) (sym e)) ∙ c) in
-      (place_free p 0 (at os i) parts.0, parts.1)
+-- the first of a row, and the others
+pub first_split : (os : List Operand) → 1 ≤ length os → at os 0 ∷ take (length os - 1) (drop 1 os) ≡ os
+first_split [] h = absurd (omega (arith, h))
+first_split (o ∷ os) h = ap (λ l. o ∷ l) (take_all (length (o ∷ os) - 1) os (omega arith))
 
 module _ {S : Type 0} {meaning : S → Meaning} {kept : S → S → Type 0} (laws : Laws meaning kept) (os : List Operand) where
-  pub begun : {s : S} → reached_refused 0 os ≡ None → Sofar meaning kept os 0 s s
-  begun {s} c = record { written = nothing laws s; split = refl; place = 0; clean = c }
+  pub past_end : {i : ℕ} {s t : S} → length os ≤ i → Sofar meaning kept os i s t → Printed meaning kept (followed (map operand_items os)) s None t
+  past_end {i} h so = renamed (ap (λ l. followed (map operand_items l)) (take_all i os h)) so
 
-  module _ {i : ℕ} {s t : S} (so : Sofar meaning kept os i s t) where
+  module _ {i : ℕ} {s t : S} (so : Sofar meaning kept os i s t) (texts : All HasText os) (within : i < length os) where
     front : List Item
     front = followed (map operand_items (take i os))
 
-    whole : followed (map operand_items (reached os)) ≡ front ++ followed (map operand_items (reached (drop i os)))
+    row : List Item
+    row = operand_items (at os i)
+
+    rest : List Item
+    rest = followed (map operand_items (drop (i + 1) os))
+
+    cut : take i os ++ (at os i ∷ drop (i + 1) os) ≡ os
+    cut = ap (λ l. take i os ++ l) (ap (λ n. at os i ∷ drop n os) (add-one i) ∙ sym (drop-cons os i (One R0) within)) ∙ take-append-drop i os
+
+    whole : followed (map operand_items os) ≡ front ++ (text_items (codes ", ") ++ (row ++ rest))
+    unfolding front row rest
+    whole =
+        sym (ap (λ l. followed (map operand_items l)) cut) ∙ ap followed (map-append operand_items (take i os) (at os i ∷ drop (i + 1) os))
+        ∙ followed_append (map operand_items (take i os)) (map operand_items (at os i ∷ drop (i + 1) os))
+
+    -- a comma, or an operand behind it, found no room
+    pub comma_stop : {u : S} (r : Result (Unit {0}) Fault) (d : Fault) → Printed meaning kept (text_items (codes ", ")) t (Some (refusal d)) u → IsErrAnd r (λ y. y ≡ d) → Printed meaning kept (followed (map operand_items os)) s (outcome r) u
     unfolding front
-    whole = ap (λ l. followed (map operand_items l)) so.split ∙ ap followed (map-append operand_items (take i os) (reached (drop i os))) ∙ followed_append (map operand_items (take i os)) (map operand_items (reached (drop i os)))
+    comma_stop r d p e = renamed (sym whole) (both laws front _ so (stop laws (text_items (codes ", ")) (row ++ rest) r d p e))
 
-    -- no more operands are reached
-    pub ended : reached (drop i os) ≡ [] → Printed meaning kept (followed (map operand_items (reached os))) s None t
-    unfolding front
-    ended e = renamed (sym (whole ∙ ap (λ l. front ++ followed (map operand_items l)) e ∙ append-nil front)) so.written
+    pub operand_stop : {u v : S} (r : Result (Unit {0}) Fault) (d : Fault) → Printed meaning kept (text_items (codes ", ")) t None u → PrintedUnless meaning kept (operand_refused 0 (at os i)) (operand_items (at os i)) u (Some (refusal d)) v → IsErrAnd r (λ y. y ≡ d) → Printed meaning kept (followed (map operand_items os)) s (outcome r) v
+    unfolding front row
+    operand_stop r d p q e =
+        renamed (sym whole) (both laws front _ so (both laws (text_items (codes ", ")) _ p (stop laws row rest r d (printed_at (at os i) (texts i (One R0) within) q) e)))
 
-    pub past_end : length os ≤ i → Printed meaning kept (followed (map operand_items (reached os))) s None t
-    past_end h = ended (ap reached (drop_all i os h))
-
-    module _ (within : i < length os) (some : false ≡ no_more (shape (at os i))) where
-      row : List Item
-      row = operand_items (at os i)
-
-      rest : List Item
-      rest = followed (map operand_items (reached (drop (i + 1) os)))
-
-      whole_here : followed (map operand_items (reached os)) ≡ front ++ (text_items (codes ", ") ++ (row ++ rest))
-      unfolding front row rest
-      whole_here = whole ∙ ap (λ l. front ++ followed (map operand_items l)) (next_reached os i within some)
-
-      -- a comma, or an operand behind it, found no room
-      pub comma_stop : {u : S} (r : Result (Unit {0}) Fault) (d : Fault) → Printed meaning kept (text_items (codes ", ")) t (Some (refusal d)) u → IsErrAnd r (λ y. y ≡ d) → Printed meaning kept (followed (map operand_items (reached os))) s (outcome r) u
-      unfolding front
-      comma_stop r d p e = renamed (sym whole_here) (both laws front _ so.written (stop laws (text_items (codes ", ")) (row ++ rest) r d p e))
-
-      pub operand_stop : {u v : S} (r : Result (Unit {0}) Fault) (d : Fault) → Printed meaning kept (text_items (codes ", ")) t None u → PrintedUnless meaning kept (operand_refused 0 (at os i)) (operand_items (at os i)) u (Some (refusal d)) v → IsErrAnd r (λ y. y ≡ d) → Printed meaning kept (followed (map operand_items (reached os))) s (outcome r) v
-      unfolding front row
-      operand_stop r d p q e =
-          let fine = (next_clean os i within so.place some so.clean).0 in
-          renamed (sym whole_here) (both laws front _ so.written (both laws (text_items (codes ", ")) _ p (stop laws row rest r d (printed_at (at os i) fine q) e)))
-
-      -- one operand more
-      pub more : {u v : S} → Printed meaning kept (text_items (codes ", ")) t None u → PrintedUnless meaning kept (operand_refused 0 (at os i)) (operand_items (at os i)) u None v → Sofar meaning kept os (i + 1) s v
-      unfolding front row
-      more p q =
-          let fine = next_clean os i within so.place some so.clean in
-          let one = at os i ∷ [] in
-          let taken : take (i + 1) os ≡ take i os ++ one = take_more os i (One R0) within in
-          record {
-            written = renamed (sym (ap (λ l. followed (map operand_items l)) taken ∙ ap followed (map-append operand_items (take i os) one) ∙ followed_append (map operand_items (take i os)) (row ∷ [])))
-                (both laws front _ so.written (both laws (text_items (codes ", ")) _ p (renamed (sym (append-nil row)) (printed_at (at os i) fine.0 q))));
-            split = so.split ∙ ap (λ l. take i os ++ l) (next_reached os i within some) ∙ sym (append_assoc (take i os) one (reached (drop (i + 1) os))) ∙ ap (λ l. l ++ reached (drop (i + 1) os)) (sym taken);
-            place = suc so.place;
-            clean = fine.1;
-          }
+    -- one operand more
+    pub more : {u v : S} → Printed meaning kept (text_items (codes ", ")) t None u → PrintedUnless meaning kept (operand_refused 0 (at os i)) (operand_items (at os i)) u None v → Sofar meaning kept os (i + 1) s v
+    unfolding front row
+    more p q =
+        let one = at os i ∷ [] in
+        renamed (sym (ap (λ l. followed (map operand_items l)) (take_more os i (One R0) within) ∙ ap followed (map-append operand_items (take i os) one) ∙ followed_append (map operand_items (take i os)) (row ∷ [])))
+        (both laws front _ so (both laws (text_items (codes ", ")) _ p (renamed (sym (append-nil row)) (printed_at (at os i) (texts i (One R0) within) q))))

@@ -3,7 +3,6 @@
 
 ghost use Rattle.display.specs.Worked.{WorkedLines};
 
-mod coprocessor;
 mod inst;
 mod operands;
 pub mod rows;

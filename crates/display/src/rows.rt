@@ -1,40 +1,24 @@
 // The rows behind a word, for each way to print an instruction.
-ghost use Rattle.std.specs.Prelude.{◌≡◌, [], ◌∷◌, ◌++◌, map, None, codes};
+ghost use Rattle.std.specs.Prelude.{[], ◌∷◌, ◌++◌, map, codes};
 ghost use Rattle.kind.specs.Kinds.{optional};
 ghost use Rattle.sink.specs.declared.sink.Edge.TheVariants.{Start, End};
 ghost use Rattle.sink.specs.declared.sink.Span.TheVariants.{Register};
 ghost use Rattle.sink.specs.Items.{edge, text_items};
 ghost use Rattle.sink.specs.Outcome.{outcome};
 ghost use Rattle.sink.specs.Printed.{Printed};
-ghost use Rattle.visitor.specs.Operands.{operand_items, bang};
-ghost use Rattle.visitor.specs.Texts.{flagged, reg_items, list_items, followed, decimal};
-ghost use Rattle.lines.specs.Admission.{reached_refused};
-ghost use Rattle.lines.specs.Lines.{reached, behind_word, one_row, code_row, code_rows};
+ghost use Rattle.visitor.specs.Texts.{reg_items, list_items, followed, decimal};
+ghost use Rattle.lines.specs.Forms.{block_rows, rows_of};
+ghost use Rattle.lines.specs.Lines.{behind_word, one_row, code_row};
 
-use crate::operands::write_followed;
+use crate::operands::{write_followed, write_operands};
+use crate::system::{write_cps, write_it_condition, write_setend};
 use crate::word::write_flagged;
-use armv7::{Fault, Operand, Reg};
-use lines::is_nothing;
+use armv7::{Fault, Reg};
+use kind::Codes;
+use lines::{Block, Form, Reached};
 use sink::DisplaySink;
 use text::{write_decimal, write_list, write_reg, write_text};
-use writer::{write_operand, write_reg_wback};
-
-// The operands before the first Nothing.
-pub(crate) fn write_operands<T: DisplaySink>(
-    first: Operand,
-    rest: &[Operand],
-    out: &mut T,
-) -> Result<(), Fault>
-    requires { reached_refused 0 (first ∷ rest.now) ≡ None }
-    ensures { Printed T.meaning T.kept (behind_word (map operand_items (reached (first ∷ rest.now)))) out.old (outcome result) out.new }
-{
-    if is_nothing(first) {
-        return Ok(());
-    }
-    write_text(out, b" ")?;
-    write_operand(out, &first)?;
-    write_followed(rest, out)
-}
+use writer::write_reg_wback;
 
 // The list of a pop or a push.
 pub fn write_stack_list<T: DisplaySink>(registers: u16, out: &mut T) -> Result<(), Fault>
@@ -64,20 +48,14 @@ pub(crate) fn write_stack_one<T: DisplaySink>(reg: Reg, out: &mut T) -> Result<(
 }
 
 // The base and the list of a block transfer.
-pub fn write_block<T: DisplaySink>(
-    base: Reg,
-    wback: bool,
-    mask: u16,
-    user: bool,
-    out: &mut T,
-) -> Result<(), Fault>
-    ensures printed { Printed T.meaning T.kept (behind_word ((reg_items base ++ text_items (bang wback)) ∷ (list_items mask ++ text_items (flagged user (codes "^"))) ∷ [])) out.old (outcome result) out.new }
+pub fn write_block<T: DisplaySink>(block: Block, out: &mut T) -> Result<(), Fault>
+    ensures printed { Printed T.meaning T.kept (behind_word (block_rows block)) out.old (outcome result) out.new }
 {
     write_text(out, b" ")?;
-    write_reg_wback(out, base, wback)?;
+    write_reg_wback(out, block.base, block.wback)?;
     write_text(out, b", ")?;
-    write_list(out, mask)?;
-    write_flagged(user, b"^", out)
+    write_list(out, block.mask)?;
+    write_flagged(block.transfer.user, b"^", out)
 }
 
 // A code behind a comma, where there is one.
@@ -92,30 +70,39 @@ fn write_code<T: DisplaySink>(code: Option<u8>, out: &mut T) -> Result<(), Fault
 }
 
 // The coprocessor and the code behind it.
-fn write_codes<T: DisplaySink>(
-    coprocessor: u8,
-    second: Option<u8>,
-    out: &mut T,
-) -> Result<(), Fault>
-    ensures { Printed T.meaning T.kept (text_items (codes " p") ++ (text_items (decimal coprocessor) ++ followed (map code_row (optional second)))) out.old (outcome result) out.new }
+fn write_codes<T: DisplaySink>(numbers: Codes, out: &mut T) -> Result<(), Fault>
+    ensures { Printed T.meaning T.kept (text_items (codes " p") ++ (text_items (decimal numbers.coprocessor) ++ followed (map code_row (optional numbers.second)))) out.old (outcome result) out.new }
 {
     write_text(out, b" p")?;
-    write_decimal(out, coprocessor)?;
-    write_code(second, out)
+    write_decimal(out, numbers.coprocessor)?;
+    write_code(numbers.second, out)
 }
 
 // The codes of a coprocessor form around its operands.
-pub(crate) fn write_coprocessor<T: DisplaySink>(
-    coprocessor: u8,
-    second: Option<u8>,
-    third: Option<u8>,
-    operands: &[Operand],
+fn write_coprocessor<T: DisplaySink>(
+    codes: Codes,
+    reached: Reached<'_>,
     out: &mut T,
 ) -> Result<(), Fault>
-    requires { reached_refused 0 operands.now ≡ None }
-    ensures { Printed T.meaning T.kept (behind_word (code_rows (coprocessor ∷ optional second) ++ (map operand_items (reached operands.now) ++ map code_row (optional third)))) out.old (outcome result) out.new }
+    ensures { Printed T.meaning T.kept (behind_word (rows_of (Form.Coprocessor codes reached.entry))) out.old (outcome result) out.new }
 {
-    write_codes(coprocessor, second, out)?;
-    write_followed(operands, out)?;
-    write_code(third, out)
+    write_codes(codes, out)?;
+    write_followed(reached, out)?;
+    write_code(codes.third, out)
+}
+
+// What stands behind the word of an instruction, by its form.
+pub(crate) fn write_rows<T: DisplaySink>(form: Form<'_>, out: &mut T) -> Result<(), Fault>
+    ensures { Printed T.meaning T.kept (behind_word (rows_of form.entry)) out.old (outcome result) out.new }
+{
+    match form {
+        Form::Plain(reached) => write_operands(reached, out),
+        Form::Coprocessor(codes, reached) => write_coprocessor(codes, reached, out),
+        Form::Block(block) => write_block(block, out),
+        Form::Stack(block) => write_stack_list(block.mask, out),
+        Form::One { reg, .. } => write_stack_one(reg, out),
+        Form::It(block) => write_it_condition(block.condition, out),
+        Form::Cps { flags, mode } => write_cps(flags, mode, out),
+        Form::Setend { number } => write_setend(number, out),
+    }
 }

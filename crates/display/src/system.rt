@@ -1,44 +1,27 @@
 // The rows of IT, CPS and SETEND.
-ghost use Rattle.std.specs.Prelude.{◌≡◌, ◌≤◌, [], ◌∷◌, ◌++◌, if◌then◌else◌, codes, nat_eq};
+ghost use Rattle.std.specs.Prelude.{◌≡◌, [], ◌∷◌, ◌++◌, if◌then◌else◌, codes, nat_eq};
 ghost use Rattle.armv7.specs.Conditions.{condition_name};
 ghost use Rattle.sink.specs.Items.{text_items};
 ghost use Rattle.sink.specs.Outcome.{outcome};
 ghost use Rattle.sink.specs.Printed.{Printed};
-ghost use Rattle.visitor.specs.Shapes.{shape};
 ghost use Rattle.visitor.specs.Texts.{prefixed};
-ghost use Rattle.lines.specs.Codes.{mode_of, mode_rows};
-ghost use Rattle.lines.specs.Lines.{behind_word, condition_at, cps_letters, flag_row, setend_text};
+ghost use Rattle.lines.specs.Codes.{mode_rows};
+ghost use Rattle.lines.specs.Lines.{behind_word, cps_letters, flag_row, setend_text};
 
 use crate::word::write_flagged;
-use armv7::{ConditionCode, Fault, Operand};
+use armv7::{ConditionCode, Fault};
 use sink::DisplaySink;
 use text::{write_prefixed_u16, write_text};
 
-const CONDITIONS: [ConditionCode; 15] = [
-    ConditionCode::EQ,
-    ConditionCode::NE,
-    ConditionCode::HS,
-    ConditionCode::LO,
-    ConditionCode::MI,
-    ConditionCode::PL,
-    ConditionCode::VS,
-    ConditionCode::VC,
-    ConditionCode::HI,
-    ConditionCode::LS,
-    ConditionCode::GE,
-    ConditionCode::LT,
-    ConditionCode::GT,
-    ConditionCode::LE,
-    ConditionCode::AL,
-];
-
 // The condition of an IT block.
-pub(crate) fn write_it_condition<T: DisplaySink>(number: u32, out: &mut T) -> Result<(), Fault>
-    requires { number ≤ 14 }
-    ensures { Printed T.meaning T.kept (behind_word (text_items (condition_name (condition_at number)) ∷ [])) out.old (outcome result) out.new }
+pub(crate) fn write_it_condition<T: DisplaySink>(
+    condition: ConditionCode,
+    out: &mut T,
+) -> Result<(), Fault>
+    ensures { Printed T.meaning T.kept (behind_word (text_items (condition_name condition) ∷ [])) out.old (outcome result) out.new }
 {
     write_text(out, b" ")?;
-    write_text(out, CONDITIONS[number as usize].name())
+    write_text(out, condition.name())
 }
 
 // The state that a SETEND sets.
@@ -71,15 +54,6 @@ fn write_cps_flags<T: DisplaySink>(flags: u16, out: &mut T) -> Result<(), Fault>
     write_cps_letters(flags, out)
 }
 
-fn mode_by(operand: Operand) -> Option<u16>
-    ensures { result ≡ mode_of (shape operand) }
-{
-    match operand {
-        Operand::Imm12(mode) => Some(mode),
-        _ => None,
-    }
-}
-
 fn before_mode(flags: u16) -> &'static [u8]
     ensures { result.now ≡ (if nat_eq flags 0 then (codes " #") else (codes ", #")) }
 {
@@ -96,14 +70,14 @@ fn write_cps_mode<T: DisplaySink>(flags: u16, mode: u16, out: &mut T) -> Result<
 // The interrupts that a CPS switches, and the mode that it changes to.
 pub(crate) fn write_cps<T: DisplaySink>(
     flags: u16,
-    second: Operand,
+    mode: Option<u16>,
     out: &mut T,
 ) -> Result<(), Fault>
-    ensures { Printed T.meaning T.kept (behind_word (flag_row flags ++ mode_rows (mode_of (shape second)))) out.old (outcome result) out.new }
+    ensures { Printed T.meaning T.kept (behind_word (flag_row flags ++ mode_rows mode)) out.old (outcome result) out.new }
 {
     write_cps_flags(flags, out)?;
-    match mode_by(second) {
-        Some(mode) => write_cps_mode(flags, mode, out),
+    match mode {
+        Some(number) => write_cps_mode(flags, number, out),
         None => Ok(()),
     }
 }

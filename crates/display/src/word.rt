@@ -1,13 +1,15 @@
 // The word of a line: the mnemonic with what stands behind it, in an opcode span.
-ghost use Rattle.std.specs.Prelude.{◌≡◌, ◌≤◌, ◌++◌, ◌==◌};
-ghost use Rattle.armv7.specs.Conditions.{condition_number};
+ghost use Rattle.std.specs.Prelude.{◌≡◌, ◌++◌};
+ghost use Rattle.armv7.specs.Conditions.{condition_number as number_of};
 ghost use Rattle.sink.specs.Items.{text_items};
 ghost use Rattle.sink.specs.Outcome.{outcome};
 ghost use Rattle.sink.specs.Printed.{Printed};
 ghost use Rattle.visitor.specs.Texts.{flagged};
-ghost use Rattle.lines.specs.Lines.{condition_suffix, suffix_of, word_items, it_letter, letter_count, it_letters};
+ghost use Rattle.lines.specs.Forms.{suffix_text, block_letters, word_of};
+ghost use Rattle.lines.specs.Lines.{condition_suffix, word_items, it_letter};
 
-use armv7::{ConditionCode, Fault};
+use armv7::{ConditionCode, Fault, Instruction};
+use lines::{Form, ItBlock, Suffix, letter_count, stack_word};
 use sink::DisplaySink;
 use text::write_text;
 
@@ -22,67 +24,49 @@ pub(crate) fn write_flagged<T: DisplaySink>(
     if flag { write_text(out, text) } else { Ok(()) }
 }
 
-fn is_always(condition: ConditionCode) -> bool
-    ensures { result ≡ (condition_number condition == 14) }
-{
-    match condition {
-        ConditionCode::AL => true,
-        _ => false,
-    }
-}
-
 // The condition's letters, one after the other; AL has none.
 fn write_condition<T: DisplaySink>(condition: ConditionCode, out: &mut T) -> Result<(), Fault>
     ensures { Printed T.meaning T.kept (text_items (condition_suffix condition)) out.old (outcome result) out.new }
 {
-    if is_always(condition) {
-        return Ok(());
+    match condition {
+        ConditionCode::AL => Ok(()),
+        _ => {
+            let name = condition.name();
+            write_text(out, &name[0..1])?;
+            write_text(out, &name[1..2])
+        }
     }
-    let name = condition.name();
-    write_text(out, &name[0..1])?;
-    write_text(out, &name[1..2])
 }
 
-fn write_suffix<T: DisplaySink>(
-    s: bool,
-    condition: ConditionCode,
-    w: bool,
-    out: &mut T,
-) -> Result<(), Fault>
-    ensures { Printed T.meaning T.kept (text_items (suffix_of s condition w)) out.old (outcome result) out.new }
+fn write_suffix<T: DisplaySink>(suffix: Suffix, out: &mut T) -> Result<(), Fault>
+    ensures { Printed T.meaning T.kept (text_items (suffix_text suffix)) out.old (outcome result) out.new }
 {
-    write_flagged(s, b"s", out)?;
-    write_condition(condition, out)?;
-    write_flagged(w, b".w", out)
+    write_flagged(suffix.s, b"s", out)?;
+    write_condition(suffix.condition, out)?;
+    write_flagged(suffix.w, b".w", out)
 }
 
-fn write_mnemonic<T: DisplaySink>(
-    name: &[u8],
-    s: bool,
-    condition: ConditionCode,
-    w: bool,
-    out: &mut T,
-) -> Result<(), Fault>
-    ensures { Printed T.meaning T.kept (text_items (name.now ++ suffix_of s condition w)) out.old (outcome result) out.new }
+fn write_mnemonic<T: DisplaySink>(name: &[u8], suffix: Suffix, out: &mut T) -> Result<(), Fault>
+    ensures { Printed T.meaning T.kept (text_items (name.now ++ suffix_text suffix)) out.old (outcome result) out.new }
 {
     write_text(out, name)?;
-    write_suffix(s, condition, w, out)
+    write_suffix(suffix, out)
 }
 
 // A mnemonic with its suffix.
-pub fn write_word<T: DisplaySink>(
-    name: &[u8],
-    s: bool,
-    condition: ConditionCode,
-    w: bool,
-    out: &mut T,
-) -> Result<(), Fault>
-    ensures printed { Printed T.meaning T.kept (word_items (name.now ++ suffix_of s condition w)) out.old (outcome result) out.new }
+pub fn write_word<T: DisplaySink>(name: &[u8], suffix: Suffix, out: &mut T) -> Result<(), Fault>
+    ensures printed { Printed T.meaning T.kept (word_items (name.now ++ suffix_text suffix)) out.old (outcome result) out.new }
 {
     out.span_start_opcode();
-    write_mnemonic(name, s, condition, w, out)?;
+    write_mnemonic(name, suffix, out)?;
     out.span_end_opcode();
     Ok(())
+}
+
+fn condition_number(condition: ConditionCode) -> u32
+    ensures { result ≡ number_of condition }
+{
+    condition as u32
 }
 
 fn it_letter_at(condition: u32, bit: u32) -> u8
@@ -91,64 +75,64 @@ fn it_letter_at(condition: u32, bit: u32) -> u8
     if condition % 2 == bit % 2 { b't' } else { b'e' }
 }
 
-// How many letters an IT block has behind the first: as many bits as lie above the mask's lowest set bit.
-fn it_count(mask: u32) -> usize
-    ensures within { result ≤ 3 }
-    ensures value { result ≡ letter_count mask }
+fn write_it_letters<T: DisplaySink>(block: ItBlock, out: &mut T) -> Result<(), Fault>
+    ensures { Printed T.meaning T.kept (text_items (block_letters block)) out.old (outcome result) out.new }
 {
-    if mask % 2 == 1 {
-        3
-    } else if mask / 2 % 2 == 1 {
-        2
-    } else if mask / 4 % 2 == 1 {
-        1
-    } else {
-        0
-    }
-}
-
-fn write_it_letters<T: DisplaySink>(condition: u32, mask: u32, out: &mut T) -> Result<(), Fault>
-    ensures { Printed T.meaning T.kept (text_items (it_letters condition mask)) out.old (outcome result) out.new }
-{
+    let condition = condition_number(block.condition);
     let letters = [
-        it_letter_at(condition, mask / 8),
-        it_letter_at(condition, mask / 4),
-        it_letter_at(condition, mask / 2),
+        it_letter_at(condition, block.mask / 8),
+        it_letter_at(condition, block.mask / 4),
+        it_letter_at(condition, block.mask / 2),
     ];
-    let count = it_count(mask);
+    let count = letter_count(block.mask);
     write_text(out, &letters[0..count])
 }
 
 fn write_it_mnemonic<T: DisplaySink>(
     name: &[u8],
-    s: bool,
-    condition: ConditionCode,
-    w: bool,
-    first: u32,
-    mask: u32,
+    suffix: Suffix,
+    block: ItBlock,
     out: &mut T,
 ) -> Result<(), Fault>
-    ensures { Printed T.meaning T.kept (text_items (name.now ++ (suffix_of s condition w ++ it_letters first mask))) out.old (outcome result) out.new }
+    ensures { Printed T.meaning T.kept (text_items (name.now ++ (suffix_text suffix ++ block_letters block))) out.old (outcome result) out.new }
 {
     write_text(out, name)?;
-    write_suffix(s, condition, w, out)?;
-    write_it_letters(first, mask, out)
+    write_suffix(suffix, out)?;
+    write_it_letters(block, out)
 }
 
 // The mnemonic of an IT block with its suffix and letters.
-pub(crate) fn write_it_word<T: DisplaySink>(
+fn write_it_word<T: DisplaySink>(
     name: &[u8],
-    s: bool,
-    condition: ConditionCode,
-    w: bool,
-    first: u32,
-    mask: u32,
+    suffix: Suffix,
+    block: ItBlock,
     out: &mut T,
 ) -> Result<(), Fault>
-    ensures { Printed T.meaning T.kept (word_items (name.now ++ (suffix_of s condition w ++ it_letters first mask))) out.old (outcome result) out.new }
+    ensures { Printed T.meaning T.kept (word_items (name.now ++ (suffix_text suffix ++ block_letters block))) out.old (outcome result) out.new }
 {
     out.span_start_opcode();
-    write_it_mnemonic(name, s, condition, w, first, mask, out)?;
+    write_it_mnemonic(name, suffix, block, out)?;
     out.span_end_opcode();
     Ok(())
+}
+
+// The word of an instruction, by its form.
+pub(crate) fn write_form_word<T: DisplaySink>(
+    form: Form<'_>,
+    instruction: &Instruction,
+    out: &mut T,
+) -> Result<(), Fault>
+    ensures { Printed T.meaning T.kept (word_items (word_of form.entry instruction.now)) out.old (outcome result) out.new }
+{
+    let name = instruction.opcode.name();
+    let suffix = Suffix::of(instruction);
+    match form {
+        Form::Coprocessor(codes, _) => {
+            write_word(name, Suffix::shown(codes.suffixes, instruction), out)
+        }
+        Form::Stack(block) => write_word(stack_word(block.transfer.load), suffix, out),
+        Form::One { load, .. } => write_word(stack_word(load), suffix, out),
+        Form::It(block) => write_it_word(name, suffix, block, out),
+        _ => write_word(name, suffix, out),
+    }
 }

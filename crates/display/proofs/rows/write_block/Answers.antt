@@ -14,7 +14,7 @@ returns-in_err-write_text g c =
 pub returns-in_err-write_reg_wback : goal.returns-in_err-write_reg_wback
 returns-in_err-write_reg_wback g c =
     let laws = g.T.DisplaySink.laws in
-    let base = reg_items c.args.base ++ text_items (bang c.args.wback) in
+    let base = reg_items c.args.block.base ++ text_items (bang c.args.block.wback) in
     let r = c.from_residual-in_err-write_reg_wback in
     record {
       printed = both laws (text_items (codes " ")) _ c.in_ok-write_text.ensures.printed
@@ -24,7 +24,7 @@ returns-in_err-write_reg_wback g c =
 pub returns-in_err-write_text-2 : goal.returns-in_err-write_text-2
 returns-in_err-write_text-2 g c =
     let laws = g.T.DisplaySink.laws in
-    let base = reg_items c.args.base ++ text_items (bang c.args.wback) in
+    let base = reg_items c.args.block.base ++ text_items (bang c.args.block.wback) in
     let r = c.from_residual-in_err-write_text-2 in
     record {
       printed = both laws (text_items (codes " ")) _ c.in_ok-write_text.ensures.printed
@@ -35,9 +35,9 @@ returns-in_err-write_text-2 g c =
 pub returns-in_err-write_list : goal.returns-in_err-write_list
 returns-in_err-write_list g c =
     let laws = g.T.DisplaySink.laws in
-    let base = reg_items c.args.base ++ text_items (bang c.args.wback) in
-    let list = list_items c.args.mask in
-    let caret = text_items (flagged c.args.user (codes "^")) in
+    let base = reg_items c.args.block.base ++ text_items (bang c.args.block.wback) in
+    let list = list_items c.args.block.mask in
+    let caret = text_items (flagged c.args.block.transfer.user (codes "^")) in
     let r = c.from_residual-in_err-write_list in
     record {
       printed = both laws (text_items (codes " ")) _ c.in_ok-write_text.ensures.printed
@@ -49,9 +49,9 @@ returns-in_err-write_list g c =
 pub returns : goal.returns
 returns g c =
     let laws = g.T.DisplaySink.laws in
-    let base = reg_items c.args.base ++ text_items (bang c.args.wback) in
-    let list = list_items c.args.mask in
-    let caret = text_items (flagged c.args.user (codes "^")) in
+    let base = reg_items c.args.block.base ++ text_items (bang c.args.block.wback) in
+    let list = list_items c.args.block.mask in
+    let caret = text_items (flagged c.args.block.transfer.user (codes "^")) in
     record {
       printed = both laws (text_items (codes " ")) _ c.in_ok-write_text.ensures.printed
           (both laws base _ c.in_ok-write_reg_wback.ensures.printed

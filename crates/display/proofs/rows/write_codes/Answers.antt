@@ -14,10 +14,10 @@ returns-in_err-write_decimal g c =
     let laws = g.T.DisplaySink.laws in
     let r = c.from_residual-in_err-write_decimal in
     both laws (text_items (codes " p")) _ c.in_ok-write_text.ensures.printed
-    (stop laws (text_items (decimal c.args.coprocessor)) _ r.result c.in_err-write_decimal.field-0.0 c.in_err-write_decimal.ensures.printed r.ensures.1)
+    (stop laws (text_items (decimal c.args.numbers.coprocessor)) _ r.result c.in_err-write_decimal.field-0.0 c.in_err-write_decimal.ensures.printed r.ensures.1)
 
 pub returns : goal.returns
 returns g c =
     let laws = g.T.DisplaySink.laws in
     both laws (text_items (codes " p")) _ c.in_ok-write_text.ensures.printed
-    (both laws (text_items (decimal c.args.coprocessor)) _ c.in_ok-write_decimal.ensures.printed c.write_code.ensures)
+    (both laws (text_items (decimal c.args.numbers.coprocessor)) _ c.in_ok-write_decimal.ensures.printed c.write_code.ensures)

@@ -5,7 +5,7 @@ use Rattle.sink.proofs.Chain.{both, stop}
 use Rattle.visitor.specs.Operands.{operand_items}
 use Rattle.visitor.specs.Texts.{followed, decimal}
 use Rattle.visitor.proofs.Pieces.{renamed}
-use Rattle.lines.specs.Lines.{reached, behind_word, code_row, code_rows}
+use Rattle.lines.specs.Lines.{behind_word, code_row, code_rows}
 use Rattle.display.proofs.Followed.{followed_append}
 use Rattle.display.proofs.rows.write_coprocessor.Goals as goal
 
@@ -24,16 +24,16 @@ unfolding head
 returns-in_err-write_followed g c =
     let laws = g.T.DisplaySink.laws in
     let r = c.from_residual-in_err-write_followed in
-    let bs = optional c.args.second in
-    let os = map operand_items (reached c.args.operands.now) in
-    renamed (pieces c.args.coprocessor bs os (map code_row (optional c.args.third)))
-    (both laws (head c.args.coprocessor bs) _ c.in_ok-write_codes.ensures (stop laws (followed os) _ r.result c.in_err-write_followed.field-0.0 c.in_err-write_followed.ensures r.ensures.1))
+    let bs = optional c.args.codes.second in
+    let os = map operand_items c.args.reached.operands.now in
+    renamed (pieces c.args.codes.coprocessor bs os (map code_row (optional c.args.codes.third)))
+    (both laws (head c.args.codes.coprocessor bs) _ c.in_ok-write_codes.ensures (stop laws (followed os) _ r.result c.in_err-write_followed.field-0.0 c.in_err-write_followed.ensures r.ensures.1))
 
 pub returns : goal.returns
 unfolding head
 returns g c =
     let laws = g.T.DisplaySink.laws in
-    let bs = optional c.args.second in
-    let os = map operand_items (reached c.args.operands.now) in
-    renamed (pieces c.args.coprocessor bs os (map code_row (optional c.args.third)))
-    (both laws (head c.args.coprocessor bs) _ c.in_ok-write_codes.ensures (both laws (followed os) _ c.in_ok-write_followed.ensures c.write_code.ensures))
+    let bs = optional c.args.codes.second in
+    let os = map operand_items c.args.reached.operands.now in
+    renamed (pieces c.args.codes.coprocessor bs os (map code_row (optional c.args.codes.third)))
+    (both laws (head c.args.codes.coprocessor bs) _ c.in_ok-write_codes.ensures (both laws (followed os) _ c.in_ok-write_followed.ensures c.write_code.ensures))

@@ -1,9 +1,7 @@
-use Rattle.std.proofs.Common.{cond, eqb, [], ◌++◌, codes, ap}
+use Rattle.std.proofs.Common.{cond, eqb, [], ◌++◌, codes, sym, ap}
 use Rattle.sink.specs.Items.{text_items}
 use Rattle.sink.proofs.Chain.{both, stop}
-use Rattle.visitor.specs.Shapes.{shape}
 use Rattle.visitor.proofs.Pieces.{renamed}
-use Rattle.lines.specs.Codes.{mode_of}
 use Rattle.lines.specs.Lines.{cps_letters}
 use Rattle.display.proofs.Modes.{mode_items, cps_pieces}
 use Rattle.display.proofs.system.write_cps.Goals as goal
@@ -12,12 +10,12 @@ pub returns-in_err-write_cps_flags : goal.returns-in_err-write_cps_flags
 returns-in_err-write_cps_flags g c =
     let none = eqb c.args.flags 0 in
     let letters = cps_letters c.args.flags in
-    renamed (cps_pieces none letters (mode_of (shape c.args.second)))
+    renamed (cps_pieces none letters c.args.mode)
     (stop g.T.DisplaySink.laws (cond none [] (text_items (codes " ") ++ text_items letters)) _ c.from_residual.result c.in_err-write_cps_flags.field-0.0 c.in_err-write_cps_flags.ensures c.from_residual.ensures.1)
 
 pub returns-in-Some : goal.returns-in-Some
 returns-in-Some g c =
     let none = eqb c.args.flags 0 in
     let letters = cps_letters c.args.flags in
-    renamed (cps_pieces none letters (mode_of (shape c.args.second)))
-    (both g.T.DisplaySink.laws (cond none [] (text_items (codes " ") ++ text_items letters)) _ c.in_ok-write_cps_flags.ensures (renamed (ap (mode_items none) c.in-Some.ensures) c.write_cps_mode.ensures))
+    renamed (cps_pieces none letters c.args.mode)
+    (both g.T.DisplaySink.laws (cond none [] (text_items (codes " ") ++ text_items letters)) _ c.in_ok-write_cps_flags.ensures (renamed (ap (mode_items none) (sym c.in-Some.is)) c.write_cps_mode.ensures))

@@ -1,5 +1,5 @@
 use Rattle.visitor.proofs.Pieces.{texts, text_stop}
-use Rattle.lines.specs.Lines.{suffix_of}
+use Rattle.lines.specs.Forms.{suffix_text}
 use Rattle.display.proofs.word.write_it_mnemonic.Goals as goal
 
 pub returns-in_err-write_text : goal.returns-in_err-write_text
@@ -11,10 +11,10 @@ returns-in_err-write_suffix g c =
     let laws = g.T.DisplaySink.laws in
     let r = c.from_residual-in_err-write_suffix in
     texts laws c.args.name.now _ c.in_ok-write_text.ensures.printed
-    (text_stop laws (suffix_of c.args.s c.args.condition c.args.w) _ r.result c.in_err-write_suffix.field-0.0 c.in_err-write_suffix.ensures r.ensures.1)
+    (text_stop laws (suffix_text c.args.suffix) _ r.result c.in_err-write_suffix.field-0.0 c.in_err-write_suffix.ensures r.ensures.1)
 
 pub returns : goal.returns
 returns g c =
     let laws = g.T.DisplaySink.laws in
     texts laws c.args.name.now _ c.in_ok-write_text.ensures.printed
-    (texts laws (suffix_of c.args.s c.args.condition c.args.w) _ c.in_ok-write_suffix.ensures c.write_it_letters.ensures)
+    (texts laws (suffix_text c.args.suffix) _ c.in_ok-write_suffix.ensures c.write_it_letters.ensures)
