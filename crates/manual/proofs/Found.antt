@@ -1,18 +1,37 @@
--- What is refused, and what is printed, by the transfer that the code finds. Assumes nothing.
-use Rattle.std.proofs.Common.{◌≡◌, Some, Option, sym, ap, ◌∙◌, ap₂}
+-- What is refused, and what is printed, by what the code finds. Assumes nothing.
+use Rattle.std.proofs.Common.{◌≡◌, Bool, Some, None, Option, refl, ap, ap₂}
 use Rattle.armv7.specs.declared.instruction.Instruction.{Instruction}
 use Rattle.armv7.specs.Faults.{Refusal}
+use Rattle.armv7.specs.declared.reg.Reg.{Reg}
+use Rattle.lines.specs.declared.form.Block.{Block}
+use Rattle.lines.specs.declared.form.Form.{Form}
+use Rattle.lines.specs.declared.form.Form.TheVariants.{Plain, Coprocessor, Block as Many, Stack, One, It, Cps, Setend}
 use Rattle.lines.specs.Admission.{first_of, refused}
+use Rattle.lines.specs.Forms.{Moved, moved_in, moved}
 use Rattle.lines.specs.Lines.{line_of}
-use Rattle.manual.specs.declared.transfer.Transfer.{Transfer}
-use Rattle.manual.specs.Lines.{transfer_parts, no_form, line_if, manual_refused, manual_line}
-use Rattle.manual.specs.Transfers.{transfer}
+use Rattle.manual.specs.Lines.{moved_parts, manual_suffix, no_form, line_if, manual_refused, manual_line}
 
-module _ (i : Instruction) {found : Option Transfer} (e : found ≡ transfer i) where
-  pub refused_found : {admitted : Option Refusal} → admitted ≡ refused i → first_of admitted (no_form found) ≡ manual_refused i
+-- any other form moves nothing
+pub nothing_moved : (f : Form) → ((b : Block) → f ≡ Many b → ⊥) → ((b : Block) → f ≡ Stack b → ⊥) → ((load : Bool) (r : Reg) → f ≡ One load r → ⊥) → moved_in f ≡ None
+nothing_moved (Plain os) x y z = refl
+nothing_moved (Coprocessor c os) x y z = refl
+nothing_moved (Many b) x y z = absurd (x b refl)
+nothing_moved (Stack b) x y z = absurd (y b refl)
+nothing_moved (One load r) x y z = absurd (z load r refl)
+nothing_moved (It b) x y z = refl
+nothing_moved (Cps flags mode) x y z = refl
+nothing_moved (Setend n) x y z = refl
+
+module _ (i : Instruction) where
+  -- what is not admitted is refused for that
+  pub refused_first : (why : Refusal) → Some why ≡ refused i → Some why ≡ manual_refused i
   unfolding manual_refused
-  refused_found a = ap₂ (λ o t. first_of o (no_form t)) a e
+  refused_first why e = ap (λ o. first_of o (no_form (moved i))) e
 
-  pub line_found : (t : Transfer) → found ≡ Some t → line_of (transfer_parts t i.condition i.thumb_w) ≡ manual_line i
+  pub refused_found : {found : Option Moved} → None ≡ refused i → found ≡ moved i → no_form found ≡ manual_refused i
+  unfolding manual_refused
+  refused_found e f = ap₂ (λ o m. first_of o (no_form m)) e f
+
+  pub line_found : (m : Moved) → Some m ≡ moved i → line_of (moved_parts m (manual_suffix i.condition i.thumb_w)) ≡ manual_line i
   unfolding manual_line
-  line_found t f = ap (λ t. line_if t i.condition i.thumb_w) (sym f ∙ e)
+  line_found m e = ap (λ o. line_if o (manual_suffix i.condition i.thumb_w)) e

@@ -1,4 +1,3 @@
 pub mod Lines
 pub mod Plain
-pub mod Transfers
 pub mod Worked

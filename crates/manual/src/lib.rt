@@ -7,7 +7,6 @@ ghost use Rattle.manual.specs.Plain.{PlainLines};
 ghost use Rattle.manual.specs.Worked.{WorkedManualLines};
 
 mod line;
-mod transfer;
 
 pub use line::visit_manual;
 

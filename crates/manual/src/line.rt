@@ -1,24 +1,24 @@
 // The manual line.
-ghost use Rattle.std.specs.Prelude.{◌≡◌, [], ◌∷◌, ◌++◌, IfOk, Some};
+ghost use Rattle.std.specs.Prelude.{◌≡◌, [], ◌∷◌};
 ghost use Rattle.sink.specs.Outcome.{outcome};
 ghost use Rattle.sink.specs.Printed.{Printed};
 ghost use Rattle.visitor.specs.Visits.{PrintedUnless};
-ghost use Rattle.lines.specs.Admission.{first_of, refused};
-ghost use Rattle.lines.specs.Lines.{stack_name, behind_word, line_of};
-ghost use Rattle.manual.specs.Lines.{block_name, one_row, one_parts, block_parts, transfer_parts, no_form, manual_refused, manual_line};
+ghost use Rattle.lines.specs.Forms.{suffix_text};
+ghost use Rattle.lines.specs.Lines.{behind_word, line_of};
+ghost use Rattle.manual.specs.Lines.{on_stack, block_name, one_row, one_parts, block_parts, manual_refused, manual_line};
 
-use crate::transfer::{Block, Transfer, stacks, transfer_of};
-use armv7::{ConditionCode, Fault, Instruction, Reg};
+use armv7::{Fault, Instruction, Reg};
 use display::rows::{write_block, write_stack_list};
 use display::word::write_word;
-use lines::admit;
+use kind::Transfer;
+use lines::{Block, Form, Suffix, admit, stack_word, stacks};
 use sink::DisplaySink;
 use text::{write_reg, write_text};
 
-fn name_of_block(load: bool, add: bool, pre: bool) -> &'static [u8]
-    ensures { result.now ≡ block_name load add pre }
+fn name_of_block(transfer: Transfer) -> &'static [u8]
+    ensures { result.now ≡ block_name transfer.load transfer.add transfer.pre }
 {
-    match (load, add, pre) {
+    match (transfer.load, transfer.add, transfer.pre) {
         (true, true, false) => b"ldm",
         (true, true, true) => b"ldmib",
         (true, false, false) => b"ldmda",
@@ -30,27 +30,26 @@ fn name_of_block(load: bool, add: bool, pre: bool) -> &'static [u8]
     }
 }
 
-fn name_on_stack(load: bool) -> &'static [u8]
-    ensures { result.now ≡ stack_name load }
+// Whether a block transfer is a pop or a push: the opcode's own write-back flag does not matter.
+fn is_on_stack(block: Block) -> bool
+    ensures { result ≡ on_stack block }
 {
-    if load { b"pop" } else { b"push" }
+    let transfer = Transfer {
+        wback: false,
+        ..block.transfer
+    };
+    stacks(transfer, block.base, block.wback)
 }
 
-fn write_block_line<T: DisplaySink>(
-    block: Block,
-    condition: ConditionCode,
-    w: bool,
-    out: &mut T,
-) -> Result<(), Fault>
-    ensures { Printed T.meaning T.kept (line_of (block_parts block condition w)) out.old (outcome result) out.new }
+fn write_block_line<T: DisplaySink>(block: Block, suffix: Suffix, out: &mut T) -> Result<(), Fault>
+    ensures { Printed T.meaning T.kept (line_of (block_parts block (suffix_text suffix))) out.old (outcome result) out.new }
 {
-    if stacks(block) {
-        write_word(name_on_stack(block.load), false, condition, w, out)?;
+    if is_on_stack(block) {
+        write_word(stack_word(block.transfer.load), suffix, out)?;
         write_stack_list(block.mask, out)
     } else {
-        let name = name_of_block(block.load, block.add, block.pre);
-        write_word(name, false, condition, w, out)?;
-        write_block(block.base, block.wback, block.mask, block.user, out)
+        write_word(name_of_block(block.transfer), suffix, out)?;
+        write_block(block, out)
     }
 }
 
@@ -64,59 +63,30 @@ fn write_one<T: DisplaySink>(reg: Reg, out: &mut T) -> Result<(), Fault>
 }
 
 fn write_one_line<T: DisplaySink>(
-    name: &[u8],
+    load: bool,
     reg: Reg,
-    condition: ConditionCode,
-    w: bool,
+    suffix: Suffix,
     out: &mut T,
 ) -> Result<(), Fault>
-    ensures { Printed T.meaning T.kept (line_of (one_parts name.now reg condition w)) out.old (outcome result) out.new }
+    ensures { Printed T.meaning T.kept (line_of (one_parts load reg (suffix_text suffix))) out.old (outcome result) out.new }
 {
-    write_word(name, false, condition, w, out)?;
+    write_word(stack_word(load), suffix, out)?;
     write_one(reg, out)
-}
-
-fn write_transfer<T: DisplaySink>(
-    transfer: Transfer,
-    condition: ConditionCode,
-    w: bool,
-    out: &mut T,
-) -> Result<(), Fault>
-    ensures { Printed T.meaning T.kept (line_of (transfer_parts transfer condition w)) out.old (outcome result) out.new }
-{
-    match transfer {
-        Transfer::Many(block) => write_block_line(block, condition, w, out),
-        Transfer::Pop(reg) => write_one_line(b"pop", reg, condition, w, out),
-        Transfer::Push(reg) => write_one_line(b"push", reg, condition, w, out),
-    }
-}
-
-// Why the instruction is not printed, if it is not.
-fn try_to_admit(instruction: &Instruction) -> Result<(), Fault>
-    ensures refusal { outcome result ≡ refused instruction.now }
-{
-    admit(instruction)?;
-    Ok(())
-}
-
-// What is to be written: the refusals of an instruction that is not admitted come first.
-fn in_order(admitted: Result<(), Fault>, found: Option<Transfer>) -> Result<Transfer, Fault>
-    ensures told { outcome result ≡ first_of (outcome admitted) (no_form found) }
-    ensures value { IfOk result (λ t. found ≡ Some t) }
-{
-    match (admitted, found) {
-        (Err(fault), _) => Err(fault),
-        (_, None) => Err(Fault::NoManualForm),
-        (_, Some(transfer)) => Ok(transfer),
-    }
 }
 
 // Prints the manual line of an instruction that is not refused to a sink, as much of it as there is room for.
 pub fn visit_manual<T: DisplaySink>(instruction: &Instruction, out: &mut T) -> Result<(), Fault>
     ensures printed { PrintedUnless T.meaning T.kept (manual_refused instruction.now) (manual_line instruction.now) out.old (outcome result) out.new }
 {
-    let [first, second, third, fourth] = instruction.operands;
-    let found = transfer_of(instruction.opcode, first, second, third, fourth);
-    let transfer = in_order(try_to_admit(instruction), found)?;
-    write_transfer(transfer, instruction.condition, instruction.thumb_w, out)
+    let form = admit(instruction)?;
+    let suffix = Suffix {
+        s: false,
+        ..Suffix::of(instruction)
+    };
+    match form {
+        Form::Block(block) => write_block_line(block, suffix, out),
+        Form::Stack(block) => write_block_line(block, suffix, out),
+        Form::One { load, reg } => write_one_line(load, reg, suffix, out),
+        _ => Err(Fault::NoManualForm),
+    }
 }

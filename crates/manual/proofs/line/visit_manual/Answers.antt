@@ -1,26 +1,60 @@
-use Rattle.std.proofs.Common.{refl, ◌∙◌}
+use Rattle.std.proofs.Common.{false, sym, ap, refl, ◌∙◌}
 use Rattle.armv7.specs.Faults.{refusal}
 use Rattle.sink.proofs.Chain.{broke}
 use Rattle.visitor.proofs.Pieces.{renamed}
 use Rattle.display.proofs.Unless.{printed_then, refused_then}
-use Rattle.manual.specs.Lines.{manual_refused, manual_line}
-use Rattle.manual.proofs.Found.{refused_found, line_found}
+use Rattle.lines.specs.Forms.{many, one, moved_in}
+use Rattle.lines.specs.Lines.{suffix_of, line_of}
+use Rattle.manual.specs.Lines.{moved_parts, manual_refused, manual_line}
+use Rattle.manual.proofs.Found.{nothing_moved, refused_first, refused_found, line_found}
 use Rattle.manual.proofs.line.visit_manual.Goals as goal
 
-pub returns-in_err-transfer : goal.returns-in_err-transfer
-returns-in_err-transfer g c =
+pub returns-in_err-form : goal.returns-in_err-form
+returns-in_err-form g c =
     let i = c.args.instruction.now in
-    let d = c.in_err-transfer.field-0.0 in
-    let why = c.in_err-transfer.ensures.told ∙ refused_found i c.transfer_of-found.ensures c.try_to_admit.ensures.refusal in
+    let d = c.in_err-form.field-0.0 in
     record {
-      printed = refused_then g.T.DisplaySink.meaning g.T.DisplaySink.kept (manual_refused i) (manual_line i) (refusal d) why (broke c.from_residual.result d c.from_residual.ensures.1) refl;
+      printed = refused_then g.T.DisplaySink.meaning g.T.DisplaySink.kept (manual_refused i) (manual_line i) (refusal d) (refused_first i (refusal d) c.in_err-form.ensures.refusal) (broke c.from_residual.result d c.from_residual.ensures.1) refl;
     }
 
-pub returns : goal.returns
-returns g c =
+pub returns-in-Block : goal.returns-in-Block
+returns-in-Block g c =
     let i = c.args.instruction.now in
-    let told = c.in_ok-transfer.ensures in
-    let none = told.told ∙ refused_found i c.transfer_of-found.ensures c.try_to_admit.ensures.refusal in
+    let told = c.in_ok-form.ensures in
+    let m = many c.in-Block.block in
+    let found = sym (ap moved_in c.in-Block.is) ∙ told.moves in
     record {
-      printed = printed_then g.T.DisplaySink.meaning g.T.DisplaySink.kept (manual_refused i) (manual_line i) none (renamed (line_found i c.transfer_of-found.ensures c.in_ok-transfer.transfer told.value) c.write_transfer.ensures);
+      printed = printed_then g.T.DisplaySink.meaning g.T.DisplaySink.kept (manual_refused i) (manual_line i) (refused_found i told.refusal found)
+          (renamed (ap (λ x. line_of (moved_parts m (suffix_of false x.condition x.w))) c.of.ensures.value ∙ line_found i m found) c.write_block_line.ensures);
+    }
+
+pub returns-in-Stack : goal.returns-in-Stack
+returns-in-Stack g c =
+    let i = c.args.instruction.now in
+    let told = c.in_ok-form.ensures in
+    let m = many c.in-Stack.block in
+    let found = sym (ap moved_in c.in-Stack.is) ∙ told.moves in
+    record {
+      printed = printed_then g.T.DisplaySink.meaning g.T.DisplaySink.kept (manual_refused i) (manual_line i) (refused_found i told.refusal found)
+          (renamed (ap (λ x. line_of (moved_parts m (suffix_of false x.condition x.w))) c.of.ensures.value ∙ line_found i m found) c.write_block_line-in-Stack.ensures);
+    }
+
+pub returns-in-One : goal.returns-in-One
+returns-in-One g c =
+    let i = c.args.instruction.now in
+    let told = c.in_ok-form.ensures in
+    let m = one c.in-One.load c.in-One.reg in
+    let found = sym (ap moved_in c.in-One.is) ∙ told.moves in
+    record {
+      printed = printed_then g.T.DisplaySink.meaning g.T.DisplaySink.kept (manual_refused i) (manual_line i) (refused_found i told.refusal found)
+          (renamed (ap (λ x. line_of (moved_parts m (suffix_of false x.condition x.w))) c.of.ensures.value ∙ line_found i m found) c.write_one_line.ensures);
+    }
+
+pub returns-in_default : goal.returns-in_default
+returns-in_default g c =
+    let i = c.args.instruction.now in
+    let told = c.in_ok-form.ensures in
+    let none = nothing_moved c.in_ok-form.form c.in_default.not-Block c.in_default.not-Stack c.in_default.not-One in
+    record {
+      printed = refused_then g.T.DisplaySink.meaning g.T.DisplaySink.kept (manual_refused i) (manual_line i) _ (refused_found i told.refusal (sym none ∙ told.moves)) refl refl;
     }

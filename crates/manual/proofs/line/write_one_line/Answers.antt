@@ -1,13 +1,16 @@
-use Rattle.std.proofs.Common.{◌++◌}
+use Rattle.std.proofs.Common.{◌++◌, ap}
 use Rattle.sink.proofs.Chain.{both, stop}
-use Rattle.lines.specs.Lines.{word_items}
-use Rattle.manual.specs.Lines.{manual_suffix}
+use Rattle.visitor.proofs.Pieces.{renamed}
+use Rattle.lines.specs.Forms.{suffix_text}
+use Rattle.lines.specs.Lines.{stack_name, word_items}
 use Rattle.manual.proofs.line.write_one_line.Goals as goal
 
 pub returns-in_err-write_word : goal.returns-in_err-write_word
 returns-in_err-write_word g c =
-    stop g.T.DisplaySink.laws (word_items (c.args.name.now ++ manual_suffix c.args.condition c.args.w)) _ c.from_residual.result c.in_err-write_word.field-0.0 c.in_err-write_word.ensures.printed c.from_residual.ensures.1
+    let suffix = suffix_text c.args.suffix in
+    stop g.T.DisplaySink.laws (word_items (stack_name c.args.load ++ suffix)) _ c.from_residual.result c.in_err-write_word.field-0.0 (renamed (ap (λ n. word_items (n ++ suffix)) c.stack_word.ensures.name) c.in_err-write_word.ensures.printed) c.from_residual.ensures.1
 
 pub returns : goal.returns
 returns g c =
-    both g.T.DisplaySink.laws (word_items (c.args.name.now ++ manual_suffix c.args.condition c.args.w)) _ c.in_ok-write_word.ensures.printed c.write_one.ensures
+    let suffix = suffix_text c.args.suffix in
+    both g.T.DisplaySink.laws (word_items (stack_name c.args.load ++ suffix)) _ (renamed (ap (λ n. word_items (n ++ suffix)) c.stack_word.ensures.name) c.in_ok-write_word.ensures.printed) c.write_one.ensures
