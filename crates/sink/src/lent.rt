@@ -1,7 +1,7 @@
 // Lent memory of which a part is in use.
 // Kept: the memory and its count are two parameters. In a struct of their own inside a sink, a sink that is passed by value, as
 // `end` takes it, was outside of what can be proved.
-ghost use Rattle.std.specs.Prelude.{◌≡◌, ◌+◌, ◌-◌, ◌≤◌, min, [], ◌∷◌, ◌++◌, length, take};
+ghost use Rattle.std.specs.Prelude.{◌≡◌, ◌+◌, ◌-◌, ◌≤◌, min, cond, [], ◌∷◌, ◌++◌, length, take, nat_lt};
 ghost use Rattle.sink.specs.Lent.{Filled};
 ghost use Rattle.sink.specs.Outcome.{outcome, full_below};
 
@@ -41,14 +41,13 @@ pub(crate) fn append<T: Copy>(memory: &mut [T], used: &mut usize, piece: &[T]) -
 
 // Puts one element more behind the first `used`, and counts it to them, or refuses it where there is no room for it.
 pub fn push<T: Copy>(memory: &mut [T], used: &mut usize, item: T) -> Result<(), Fault>
-    requires { used.old ≤ length memory.old }
-    ensures count { used.new ≡ min (used.old + 1) (length memory.old) }
+    ensures count { used.new ≡ cond (nat_lt used.old (length memory.old)) (used.old + 1) used.old }
     ensures size { length memory.new ≡ length memory.old }
     ensures text { take used.new memory.new ≡ take used.old memory.old ++ take (length memory.old - used.old) (item ∷ []) }
     ensures rest { Filled memory.old used.old memory.new used.new }
     ensures answer { outcome result ≡ full_below (length memory.old - used.old) 1 }
 {
-    if *used == memory.len() {
+    if *used >= memory.len() {
         return Err(Fault::SinkFull);
     }
     memory[*used] = item;
