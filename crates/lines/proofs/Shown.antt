@@ -1,24 +1,29 @@
 -- What the forms show, as the code finds them. Assumes nothing.
-use Rattle.std.proofs.Common.{◌≡◌, ℕ, ◌≤◌, Bool, true, false, List, [], ◌∷◌, ◌++◌, Ok, Some, None, codes, Option, sym, refl, ap, ◌∙◌, arith, rules}
+use Rattle.std.proofs.Common.{◌≡◌, ℕ, ◌≤◌, Bool, true, false, cond, not, ◌&&◌, eqb, List, [], ◌∷◌, ◌++◌, Ok, Some, None, codes, Option, sym, refl, ap, ◌∙◌, arith, rules}
 use Rattle.armv7.specs.Conditions.{condition_name, condition_number}
 use Rattle.armv7.specs.declared.instruction.Instruction.{Instruction}
 use Rattle.armv7.specs.declared.reg.Reg.{Reg}
 use Rattle.opcode.specs.Forms.{it, cps}
 use Rattle.opcode.specs.Names.{name_of}
 use Rattle.sink.specs.Items.{Item, text_items}
-use Rattle.visitor.specs.Shapes.{Shape, if_imm12, if_imm32, imm12, imm32}
+use Rattle.visitor.specs.Shapes.{Shape, no_more, if_one, if_post, if_pre, if_imm12, if_imm32, imm12, imm32}
 use Rattle.visitor.specs.Texts.{prefixed}
 use Rattle.lines.specs.declared.form.Form.TheVariants.{One, It, Cps}
 use Rattle.lines.specs.Admission.{reached_refused}
-use Rattle.lines.specs.Codes.{one_on_stack, mode_of, mode_rows}
+use Rattle.lines.specs.Codes.{popped, pushed, one_on_stack, mode_of, mode_rows}
 use Rattle.lines.specs.Forms.{one_form, one_if, AdmittedAs}
-use Rattle.lines.specs.Lines.{Parts, operand, shape_at, four, suffix, own_parts, one_parts, flag_row, it_letters, condition_at}
-use Rattle.lines.proofs.Aliases.{pick, load_picks, store_picks}
+use Rattle.lines.specs.Lines.{at_sp, Parts, operand, shape_at, four, suffix, own_parts, one_parts, flag_row, it_letters, condition_at}
+
+popped_parts : (a b c d : Shape) (r : Reg) (f : Reg → Parts) (own : Parts) → Some r ≡ popped a b c d → f r ≡ if_one a (λ t. if_post b (λ x n add w. cond (at_sp x && (eqb n 4 && (add && (not w && (no_more c && no_more d))))) (f t) own) own) own
+popped_parts a b c d r f own e = grind (arith, e)
+
+pushed_parts : (a b c d : Shape) (r : Reg) (f : Reg → Parts) (own : Parts) → Some r ≡ pushed a b c d → f r ≡ if_one a (λ t. if_pre b (λ x n add w. cond (at_sp x && (eqb n 4 && (not add && (w && (no_more c && no_more d))))) (f t) own) own) own
+pushed_parts a b c d r f own e = grind (arith, e)
 
 -- a load or a store that is a pop or a push
 pub one_admitted : (load : Bool) (i : Instruction) (r : Reg) → Some r ≡ one_on_stack load i.operands → None ≡ reached_refused 0 (four i) → AdmittedAs (one_form load) i (Ok (One load r))
-one_admitted true i r e h = record { refusal = h; parts = ap (λ o. pick o (λ t. one_parts (codes "pop") t i) (own_parts i)) e ∙ sym (load_picks i); moves = ap (one_if true) e }
-one_admitted false i r e h = record { refusal = h; parts = ap (λ o. pick o (λ t. one_parts (codes "push") t i) (own_parts i)) e ∙ sym (store_picks i); moves = ap (one_if false) e }
+one_admitted true i r e h = record { refusal = h; parts = popped_parts (shape_at 0 i) (shape_at 1 i) (shape_at 2 i) (shape_at 3 i) r (λ t. one_parts (codes "pop") t i) (own_parts i) e; moves = ap (one_if true) e }
+one_admitted false i r e h = record { refusal = h; parts = pushed_parts (shape_at 0 i) (shape_at 1 i) (shape_at 2 i) (shape_at 3 i) r (λ t. one_parts (codes "push") t i) (own_parts i) e; moves = ap (one_if false) e }
 
 -- the conditions are numbered in order
 numbered : (n : ℕ) → n ≤ 14 → condition_number (condition_at n) ≡ n

@@ -1,22 +1,20 @@
-// Which instructions are printed, and as what: the checks, in their order.
-ghost use Rattle.std.specs.Prelude.{◌≡◌, [], ◌∷◌, ◌++◌, IfOk};
-ghost use Rattle.armv7.specs.Faults.{place_index};
-ghost use Rattle.opcode.specs.Forms.{form, block, it, cps, setend, plain, coprocessor};
+// Which instructions are printed, and what their lines show: the checks, in their order.
+ghost use Rattle.std.specs.Prelude.{◌≡◌, [], ◌∷◌, IfOk};
+ghost use Rattle.opcode.specs.Forms.{block, it, cps, setend, plain, coprocessor};
 ghost use Rattle.sink.specs.Outcome.{outcome};
 ghost use Rattle.kind.specs.Kinds.{optional, suffixes_of};
-ghost use Rattle.visitor.specs.Operands.{operand_refused};
-ghost use Rattle.visitor.specs.Shapes.{shape, no_more as no_operand_there};
-ghost use Rattle.lines.specs.Admission.{codes_refused, reached_refused, refused};
+ghost use Rattle.visitor.specs.Shapes.{shape};
+ghost use Rattle.lines.specs.Admission.{reached_refused, refused};
 ghost use Rattle.lines.specs.Codes.{mode_of};
 ghost use Rattle.lines.specs.Forms.{parts_of, moved_in, moved, one_form, AdmittedAs};
-ghost use Rattle.lines.specs.Lines.{all_of, reached, parts};
+ghost use Rattle.lines.specs.Lines.{parts};
 
 use crate::alias::{stack_register, stacks};
-use crate::form::{Block, Form, ItBlock, Reached};
+use crate::coprocessor::admit_codes;
+use crate::form::{Block, Form, ItBlock};
+use crate::operands::{admit_operand, admit_reached, is_nothing};
 use armv7::{ConditionCode, Fault, Instruction, Operand, Place};
 use kind::{Codes, Kind, Transfer, kind_by};
-
-const PLACES: [Place; 4] = [Place::First, Place::Second, Place::Third, Place::Fourth];
 
 // By the manual's numbers.
 const CONDITIONS: [ConditionCode; 15] = [
@@ -37,96 +35,10 @@ const CONDITIONS: [ConditionCode; 15] = [
     ConditionCode::AL,
 ];
 
-// Is the operand missing?
-pub fn is_nothing(operand: Operand) -> bool
-    ensures value { result ≡ no_operand_there (shape operand) }
-{
-    match operand {
-        Operand::Nothing => true,
-        _ => false,
-    }
-}
-
-// What an operand by itself is refused for.
-fn admit_operand(operand: Operand, place: Place) -> Result<(), Fault>
-    ensures { outcome result ≡ operand_refused (place_index place) operand }
-{
-    match operand {
-        Operand::Coprocessor(_) => Err(Fault::DeadOperand(place)),
-        Operand::Nothing => Err(Fault::DeadOperand(place)),
-        Operand::RegDerefPostindexRegShift(_, _, _, wback) => {
-            if wback {
-                Err(Fault::WriteBack(place))
-            } else {
-                Ok(())
-            }
-        }
-        Operand::BranchOffset(distance) => {
-            if distance < -536_870_912 || distance > 536_870_911 {
-                Err(Fault::Displacement(place))
-            } else {
-                Ok(())
-            }
-        }
-        Operand::BranchThumbOffset(distance) => {
-            if distance < -1_073_741_824 || distance > 1_073_741_823 {
-                Err(Fault::Displacement(place))
-            } else {
-                Ok(())
-            }
-        }
-        _ => Ok(()),
-    }
-}
-
-// The operands before the first Nothing.
-fn admit_reached(operands: &[Operand; 4]) -> Result<Reached<'_>, Fault>
-    ensures refusal { outcome result ≡ reached_refused 0 (all_of operands.now) }
-    ensures value { IfOk result (λ r. r.operands.now ≡ reached (all_of operands.now)) }
-{
-    for (index, operand) in operands.iter().enumerate() {
-        if is_nothing(*operand) {
-            return Ok(Reached {
-                operands: &operands[0..index],
-            });
-        }
-        admit_operand(*operand, PLACES[index])?;
-    }
-    Ok(Reached { operands })
-}
-
 fn admit_plain(instruction: &Instruction) -> Result<Form<'_>, Fault>
     ensures { AdmittedAs plain instruction.now result }
 {
     Ok(Form::Plain(admit_reached(&instruction.operands)?))
-}
-
-// A code is a number up to 15.
-fn admit_code(code: u8) -> Result<(), Fault>
-    ensures { outcome result ≡ codes_refused (code ∷ []) }
-{
-    if code > 15 {
-        return Err(Fault::CodeNumber);
-    }
-    Ok(())
-}
-
-fn admit_optional(code: Option<u8>) -> Result<(), Fault>
-    ensures { outcome result ≡ codes_refused (optional code) }
-{
-    match code {
-        Some(number) => admit_code(number),
-        None => Ok(()),
-    }
-}
-
-// The numbers inside a coprocessor form's opcode.
-fn admit_codes(codes: Codes) -> Result<(), Fault>
-    ensures { outcome result ≡ codes_refused ((codes.coprocessor ∷ optional codes.second) ++ optional codes.third) }
-{
-    admit_code(codes.coprocessor)?;
-    admit_optional(codes.second)?;
-    admit_optional(codes.third)
 }
 
 fn admit_coprocessor(codes: Codes, instruction: &Instruction) -> Result<Form<'_>, Fault>

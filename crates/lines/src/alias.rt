@@ -4,7 +4,7 @@ ghost use Rattle.visitor.specs.Shapes.{shape};
 ghost use Rattle.lines.specs.Codes.{popped, pushed, on_stack, one_on_stack};
 ghost use Rattle.lines.specs.Lines.{stack_direction, stack_name};
 
-use crate::admission::is_nothing;
+use crate::operands::is_nothing;
 use armv7::{Operand, Reg};
 use kind::Transfer;
 

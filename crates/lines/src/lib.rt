@@ -3,12 +3,15 @@
 
 mod admission;
 mod alias;
+mod coprocessor;
 mod form;
 mod letters;
+mod operands;
 mod suffix;
 
-pub use admission::{admit, is_nothing};
+pub use admission::admit;
 pub use alias::{pop_one, push_one, stack_register, stack_word, stacks};
 pub use form::{Block, Form, ItBlock, Reached};
 pub use letters::letter_count;
+pub use operands::is_nothing;
 pub use suffix::Suffix;

@@ -4,7 +4,7 @@ use Rattle.lines.specs.Admission.{reached_refused}
 use Rattle.lines.specs.Lines.{reached}
 use Rattle.sink.proofs.Chain.{broke}
 use Rattle.lines.proofs.Tried.{all_four, ended, ended_at, past, past_at, refused_here, more}
-use Rattle.lines.proofs.admission.admit_reached.Goals as goal
+use Rattle.lines.proofs.operands.admit_reached.Goals as goal
 
 pub returns-then-is_nothing-clause-refusal : goal.returns-then-is_nothing-clause-refusal
 returns-then-is_nothing-clause-refusal c =

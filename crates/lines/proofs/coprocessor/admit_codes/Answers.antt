@@ -3,7 +3,7 @@ use Rattle.kind.specs.Kinds.{optional}
 use Rattle.sink.proofs.Chain.{broke}
 use Rattle.lines.specs.Admission.{first_of, codes_refused}
 use Rattle.lines.proofs.Numbers.{codes_both}
-use Rattle.lines.proofs.admission.admit_codes.Goals as goal
+use Rattle.lines.proofs.coprocessor.admit_codes.Goals as goal
 
 in-turn : (n : ℕ) (xs ys : List ℕ) → first_of (codes_refused (n ∷ [])) (first_of (codes_refused xs) (codes_refused ys)) ≡ codes_refused ((n ∷ xs) ++ ys)
 in-turn n xs ys = sym (codes_both (n ∷ []) (xs ++ ys) ∙ ap (first_of (codes_refused (n ∷ []))) (codes_both xs ys))

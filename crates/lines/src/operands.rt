@@ -1,0 +1,71 @@
+// The operands of an instruction, and which of them have no text.
+ghost use Rattle.std.specs.Prelude.{◌≡◌, IfOk};
+ghost use Rattle.armv7.specs.Faults.{place_index};
+ghost use Rattle.sink.specs.Outcome.{outcome};
+ghost use Rattle.visitor.specs.Operands.{operand_refused};
+ghost use Rattle.visitor.specs.Shapes.{shape, no_more as no_operand_there};
+ghost use Rattle.lines.specs.Admission.{reached_refused};
+ghost use Rattle.lines.specs.Lines.{all_of, reached};
+
+use crate::form::Reached;
+use armv7::{Fault, Operand, Place};
+
+const PLACES: [Place; 4] = [Place::First, Place::Second, Place::Third, Place::Fourth];
+
+// Is the operand missing?
+pub fn is_nothing(operand: Operand) -> bool
+    ensures value { result ≡ no_operand_there (shape operand) }
+{
+    match operand {
+        Operand::Nothing => true,
+        _ => false,
+    }
+}
+
+// What an operand by itself is refused for.
+pub(crate) fn admit_operand(operand: Operand, place: Place) -> Result<(), Fault>
+    ensures { outcome result ≡ operand_refused (place_index place) operand }
+{
+    match operand {
+        Operand::Coprocessor(_) => Err(Fault::DeadOperand(place)),
+        Operand::Nothing => Err(Fault::DeadOperand(place)),
+        Operand::RegDerefPostindexRegShift(_, _, _, wback) => {
+            if wback {
+                Err(Fault::WriteBack(place))
+            } else {
+                Ok(())
+            }
+        }
+        Operand::BranchOffset(distance) => {
+            if distance < -536_870_912 || distance > 536_870_911 {
+                Err(Fault::Displacement(place))
+            } else {
+                Ok(())
+            }
+        }
+        Operand::BranchThumbOffset(distance) => {
+            if distance < -1_073_741_824 || distance > 1_073_741_823 {
+                Err(Fault::Displacement(place))
+            } else {
+                Ok(())
+            }
+        }
+        _ => Ok(()),
+    }
+}
+
+// The operands before the first Nothing.
+pub(crate) fn admit_reached(operands: &[Operand; 4]) -> Result<Reached<'_>, Fault>
+    ensures refusal { outcome result ≡ reached_refused 0 (all_of operands.now) }
+    ensures value { IfOk result (λ r. r.operands.now ≡ reached (all_of operands.now)) }
+{
+    for (index, operand) in operands.iter().enumerate() {
+        if is_nothing(*operand) {
+            return Ok(Reached {
+                operands: &operands[0..index],
+            });
+        }
+        admit_operand(*operand, PLACES[index])?;
+    }
+    Ok(Reached { operands })
+}
