@@ -63,6 +63,7 @@ impl<'a> CellSink<'a> {
     }
 
     // The ink after an edge of a span: a start sets its kind's, and an end sets plain if the ink is its kind's.
+    // Kept: the match on the ink and the edge together is a form that the project asks for.
     fn turn(&mut self, edge: Edge, span: Span)
         ensures ink { self.new.ink ≡ next_ink self.old.ink edge span }
         ensures cells { (self.new.cells ≡ self.old.cells) × (self.new.len ≡ self.old.len) }
