@@ -49,6 +49,7 @@ impl Place {
 
 impl Fault {
     // From 1 to 11.
+    // Kept: which number a refusal has is a rule of the project.
     pub fn number(&self) -> u8
         ensures value { result ≡ (refusal self.now).number }
     {
@@ -87,6 +88,7 @@ impl Fault {
     }
 
     // The operand's place, 0 to 3, or 4 where the fault is about none.
+    // Kept: 4 in place of `None` is a rule of the project.
     pub fn place(&self) -> u8
         ensures value { result ≡ (refusal self.now).place }
     {

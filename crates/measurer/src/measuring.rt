@@ -108,6 +108,8 @@ impl OperandVisitor for Measurer {
         Ok(prefixed_size(imm))
     }
 
+    // Kept: the two kinds of branch have their bounds and scales as numbers; one function for both would take each bound and its
+    // negative, and be no plainer.
     fn visit_branch_offset(&mut self, offset: i32) -> Result<usize, Fault> {
         if offset < -536870912 || offset > 536870911 {
             return Err(Fault::Displacement(Place::First));

@@ -7,6 +7,7 @@ use crate::sink::{DisplaySink, Edge, Mark, RoomSink, Span};
 use armv7::Fault;
 
 // The first `len` of the lent bytes are the text, and the first `count` of the row are the marks.
+// Kept: the bytes and their count are two fields, as are the row and its count, as lent.rt says.
 #[derive(Drop)]
 pub struct MarkSink<'a> {
     buf: &'a mut [u8],

@@ -29,6 +29,7 @@ pub struct Mark {
     pub at: usize,
 }
 
+// Kept: the calls are those of the interface that the original prints to, by a rule of the project.
 pub trait DisplaySink {
     ghost meaning: { Self → Meaning };
 

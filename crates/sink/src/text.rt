@@ -7,6 +7,7 @@ use crate::sink::{DisplaySink, RoomSink};
 use armv7::Fault;
 
 // The first `len` of the lent bytes are the text.
+// Kept: the bytes and their count are two fields, as lent.rt says.
 #[derive(Drop)]
 pub struct TextSink<'a> {
     buf: &'a mut [u8],

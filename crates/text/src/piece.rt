@@ -47,6 +47,7 @@ fn write_name_in_bank<T: DisplaySink>(out: &mut T, word: &[u8], bank: Bank) -> R
 }
 
 // A banked register.
+// Kept: it has the edges of a span like the writers beside it, since a writer of any span would take a closure over the sink.
 pub fn write_banked_reg<T: DisplaySink>(out: &mut T, word: &[u8], bank: Bank) -> Result<(), Fault>
     ensures printed { Printed T.meaning T.kept (spanned (word.now ++ (codes "_" ++ bank_name bank))) out.old (outcome result) out.new }
 {

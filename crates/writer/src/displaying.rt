@@ -121,6 +121,8 @@ impl<T: DisplaySink> OperandVisitor for DisplayingOperandVisitor<'_, T> {
         write_prefixed(self.f, imm)
     }
 
+    // Kept: the two kinds of branch have their bounds and scales as numbers; one function for both would take each bound and its
+    // negative, and be no plainer.
     fn visit_branch_offset(&mut self, offset: i32) -> Result<(), Fault> {
         if offset < -536870912 || offset > 536870911 {
             return Err(Fault::Displacement(Place::First));
