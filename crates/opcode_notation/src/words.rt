@@ -245,7 +245,7 @@ const FORMS: [(&[u8], Form); 28] = [
     (b"CDP2", Form::Operation(ThreeCodes::Cdp2)),
 ];
 
-// Kept: each table is searched by a function of its own, so that no proof above has all 180 rows before it.
+// Kept: a function for each table, since no proof was found of one that opens all seven.
 fn flow_of(word: &[u8]) -> Option<Opcode>
     ensures { result ≡ row flow word.now }
 {

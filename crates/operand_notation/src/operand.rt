@@ -110,30 +110,30 @@ fn named(cursor: &mut Cursor<'_>, name: Name) -> Result<Operand, Slip>
         Name::Registers => cursor.bracketed().map(|x| Operand::RegList(x)),
         Name::Address => cursor.bracketed().map(|x| Operand::RegDeref(x)),
         Name::Shifted => cursor.bracketed().map(|x| Operand::RegShift(x)),
-        Name::PostShifted => cursor.bracketed().map(|(
-            (base, shift),
-            (add, back),
-        )| Operand::RegDerefPostindexRegShift(base, shift, add, back)),
-        Name::PreShifted => cursor.bracketed().map(|(
-            (base, shift),
-            (add, back),
-        )| Operand::RegDerefPreindexRegShift(base, shift, add, back)),
-        Name::PostOffset => cursor.bracketed().map(|(
-            (base, offset),
-            (add, back),
-        )| Operand::RegDerefPostindexOffset(base, offset, add, back)),
-        Name::PreOffset => cursor.bracketed().map(|(
-            (base, offset),
-            (add, back),
-        )| Operand::RegDerefPreindexOffset(base, offset, add, back)),
-        Name::PostRegister => cursor.bracketed().map(|(
-            (base, index),
-            (add, back),
-        )| Operand::RegDerefPostindexReg(base, index, add, back)),
-        Name::PreRegister => cursor.bracketed().map(|(
-            (base, index),
-            (add, back),
-        )| Operand::RegDerefPreindexReg(base, index, add, back)),
+        Name::PostShifted => {
+            let ((base, shift), (add, back)) = cursor.bracketed()?;
+            Ok(Operand::RegDerefPostindexRegShift(base, shift, add, back))
+        }
+        Name::PreShifted => {
+            let ((base, shift), (add, back)) = cursor.bracketed()?;
+            Ok(Operand::RegDerefPreindexRegShift(base, shift, add, back))
+        }
+        Name::PostOffset => {
+            let ((base, offset), (add, back)) = cursor.bracketed()?;
+            Ok(Operand::RegDerefPostindexOffset(base, offset, add, back))
+        }
+        Name::PreOffset => {
+            let ((base, offset), (add, back)) = cursor.bracketed()?;
+            Ok(Operand::RegDerefPreindexOffset(base, offset, add, back))
+        }
+        Name::PostRegister => {
+            let ((base, index), (add, back)) = cursor.bracketed()?;
+            Ok(Operand::RegDerefPostindexReg(base, index, add, back))
+        }
+        Name::PreRegister => {
+            let ((base, index), (add, back)) = cursor.bracketed()?;
+            Ok(Operand::RegDerefPreindexReg(base, index, add, back))
+        }
         Name::Twelve => cursor.bracketed().map(|x| Operand::Imm12(x)),
         Name::Word => cursor.bracketed().map(|x| Operand::Imm32(x)),
         Name::Branch => cursor.bracketed().map(|x| Operand::BranchOffset(x)),
