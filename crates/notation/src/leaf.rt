@@ -8,6 +8,7 @@ use crate::cursor::{Cursor, Slip};
 use misreading::{Expected, Given};
 
 // The number that a text writes in decimal, with no zero in front of it, if it is at most `most`.
+// Kept: `parse` also takes a plus sign and zeros in front, which would have to be refused before it.
 pub(crate) fn numeral_of(text: &[u8], most: u32) -> Option<u32>
     ensures value { result ≡ numeral most text.now }
     ensures bound { IfSome result (λ n. n ≤ most) }

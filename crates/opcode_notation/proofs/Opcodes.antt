@@ -354,9 +354,9 @@ opcode_sound [] o rest e = absurd (no_token o rest e)
 opcode_sound (t ∷ us) o rest e =
     ⊎_elim
     (λ p.
-      let last = ok_pair p.0 o us rest p.1.1 in
-      let is = plain_sound t p.0 p.1.0 in
-      (subst OpcodeHeld last.0 (alone_held t (opcode_variant p.0) is), ap (λ l. l ++ us) is ∙ ap (λ y. opcode_written y ++ us) last.0 ∙ ap (λ l. opcode_written o ++ l) last.1))
+    let last = ok_pair p.0 o us rest p.1.1 in
+    let is = plain_sound t p.0 p.1.0 in
+    (subst OpcodeHeld last.0 (alone_held t (opcode_variant p.0) is), ap (λ l. l ++ us) is ∙ ap (λ y. opcode_written y ++ us) last.0 ∙ ap (λ l. opcode_written o ++ l) last.1))
     (told_sound t us o rest)
     (either_ok (plain t) (λ o. Ok (o, us)) _ (Ok (o, rest)) e)
 

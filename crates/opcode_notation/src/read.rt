@@ -17,16 +17,11 @@ pub fn read_opcode(cursor: &mut Cursor<'_>) -> Result<Opcode, Slip>
         cursor.at = token.end;
         return Ok(opcode);
     }
-    match form_of(token.text) {
-        Some(form) => {
-            cursor.at = token.end;
-            told(cursor, form)
-        }
-        None => Err(Slip {
-            expected: Expected::Opcode,
-            refusal: None,
-        }),
-    }
+    let Some(form) = form_of(token.text) else {
+        return Err(Slip::new(Expected::Opcode));
+    };
+    cursor.at = token.end;
+    told(cursor, form)
 }
 
 // What stands in parentheses after the word.

@@ -245,6 +245,7 @@ const FORMS: [(&[u8], Form); 28] = [
     (b"CDP2", Form::Operation(ThreeCodes::Cdp2)),
 ];
 
+// Kept: a function for each table, since no proof was found of one that opens all seven.
 fn flow_of(word: &[u8]) -> Option<Opcode>
     ensures { result ≡ row flow word.now }
 {
@@ -297,23 +298,11 @@ pub(crate) fn form_of(word: &[u8]) -> Option<Form>
 pub(crate) fn plain_of(word: &[u8]) -> Option<Opcode>
     ensures { result ≡ plain word.now }
 {
-    if let Some(opcode) = flow_of(word) {
-        return Some(opcode);
-    }
-    if let Some(opcode) = data_of(word) {
-        return Some(opcode);
-    }
-    if let Some(opcode) = memory_of(word) {
-        return Some(opcode);
-    }
-    if let Some(opcode) = multiply_of(word) {
-        return Some(opcode);
-    }
-    if let Some(opcode) = bits_of(word) {
-        return Some(opcode);
-    }
-    if let Some(opcode) = system_of(word) {
-        return Some(opcode);
-    }
-    parallel_of(word)
+    flow_of(word)
+        .or_else(|| data_of(word))
+        .or_else(|| memory_of(word))
+        .or_else(|| multiply_of(word))
+        .or_else(|| bits_of(word))
+        .or_else(|| system_of(word))
+        .or_else(|| parallel_of(word))
 }

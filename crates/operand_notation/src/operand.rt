@@ -66,16 +66,6 @@ const NAMES: [(&[u8], Name); 25] = [
     (b"Nothing", Name::Nothing),
 ];
 
-// What is made of a part that was read. It stands for `map`, which takes a closure.
-macro_rules! made {
-    ($read:expr, $part:pat => $value:expr) => {
-        match $read {
-            Ok($part) => Ok($value),
-            Err(slip) => Err(slip),
-        }
-    };
-}
-
 // The four operands of an instruction.
 pub fn read_operands(cursor: &mut Cursor<'_>) -> Result<[Operand; 4], Slip>
     ensures reads { Reads operands cursor.old result cursor.new }
@@ -113,33 +103,49 @@ fn named(cursor: &mut Cursor<'_>, name: Name) -> Result<Operand, Slip>
     ensures { Reads (operand_with name) cursor.old result cursor.new }
 {
     match name {
-        Name::Register => made!(cursor.bracketed(), x => Operand::Reg(x)),
-        Name::WrittenBack => made!(cursor.bracketed(), (reg, back) => Operand::RegWBack(reg, back)),
-        Name::Registers => made!(cursor.bracketed(), x => Operand::RegList(x)),
-        Name::Address => made!(cursor.bracketed(), x => Operand::RegDeref(x)),
-        Name::Shifted => made!(cursor.bracketed(), x => Operand::RegShift(x)),
-        Name::PostShifted =>
-            made!(cursor.bracketed(), ((base, shift), (add, back)) => Operand::RegDerefPostindexRegShift(base, shift, add, back)),
-        Name::PreShifted =>
-            made!(cursor.bracketed(), ((base, shift), (add, back)) => Operand::RegDerefPreindexRegShift(base, shift, add, back)),
-        Name::PostOffset =>
-            made!(cursor.bracketed(), ((base, offset), (add, back)) => Operand::RegDerefPostindexOffset(base, offset, add, back)),
-        Name::PreOffset =>
-            made!(cursor.bracketed(), ((base, offset), (add, back)) => Operand::RegDerefPreindexOffset(base, offset, add, back)),
-        Name::PostRegister =>
-            made!(cursor.bracketed(), ((base, index), (add, back)) => Operand::RegDerefPostindexReg(base, index, add, back)),
-        Name::PreRegister =>
-            made!(cursor.bracketed(), ((base, index), (add, back)) => Operand::RegDerefPreindexReg(base, index, add, back)),
-        Name::Twelve => made!(cursor.bracketed(), x => Operand::Imm12(x)),
-        Name::Word => made!(cursor.bracketed(), x => Operand::Imm32(x)),
-        Name::Branch => made!(cursor.bracketed(), x => Operand::BranchOffset(x)),
-        Name::ThumbBranch => made!(cursor.bracketed(), x => Operand::BranchThumbOffset(x)),
-        Name::Coprocessor => made!(cursor.bracketed(), x => Operand::Coprocessor(x)),
-        Name::Choice => made!(cursor.bracketed(), x => Operand::CoprocOption(x)),
-        Name::Control => made!(cursor.bracketed(), x => Operand::CReg(x)),
-        Name::Banked => made!(cursor.bracketed(), (bank, reg) => Operand::BankedReg(bank, reg)),
-        Name::BankedStatus => made!(cursor.bracketed(), x => Operand::BankedSPSR(x)),
-        Name::Mask => made!(cursor.bracketed(), x => Operand::StatusRegMask(x)),
+        Name::Register => cursor.bracketed().map(|x| Operand::Reg(x)),
+        Name::WrittenBack => cursor
+            .bracketed()
+            .map(|(reg, back)| Operand::RegWBack(reg, back)),
+        Name::Registers => cursor.bracketed().map(|x| Operand::RegList(x)),
+        Name::Address => cursor.bracketed().map(|x| Operand::RegDeref(x)),
+        Name::Shifted => cursor.bracketed().map(|x| Operand::RegShift(x)),
+        Name::PostShifted => {
+            let ((base, shift), (add, back)) = cursor.bracketed()?;
+            Ok(Operand::RegDerefPostindexRegShift(base, shift, add, back))
+        }
+        Name::PreShifted => {
+            let ((base, shift), (add, back)) = cursor.bracketed()?;
+            Ok(Operand::RegDerefPreindexRegShift(base, shift, add, back))
+        }
+        Name::PostOffset => {
+            let ((base, offset), (add, back)) = cursor.bracketed()?;
+            Ok(Operand::RegDerefPostindexOffset(base, offset, add, back))
+        }
+        Name::PreOffset => {
+            let ((base, offset), (add, back)) = cursor.bracketed()?;
+            Ok(Operand::RegDerefPreindexOffset(base, offset, add, back))
+        }
+        Name::PostRegister => {
+            let ((base, index), (add, back)) = cursor.bracketed()?;
+            Ok(Operand::RegDerefPostindexReg(base, index, add, back))
+        }
+        Name::PreRegister => {
+            let ((base, index), (add, back)) = cursor.bracketed()?;
+            Ok(Operand::RegDerefPreindexReg(base, index, add, back))
+        }
+        Name::Twelve => cursor.bracketed().map(|x| Operand::Imm12(x)),
+        Name::Word => cursor.bracketed().map(|x| Operand::Imm32(x)),
+        Name::Branch => cursor.bracketed().map(|x| Operand::BranchOffset(x)),
+        Name::ThumbBranch => cursor.bracketed().map(|x| Operand::BranchThumbOffset(x)),
+        Name::Coprocessor => cursor.bracketed().map(|x| Operand::Coprocessor(x)),
+        Name::Choice => cursor.bracketed().map(|x| Operand::CoprocOption(x)),
+        Name::Control => cursor.bracketed().map(|x| Operand::CReg(x)),
+        Name::Banked => cursor
+            .bracketed()
+            .map(|(bank, reg)| Operand::BankedReg(bank, reg)),
+        Name::BankedStatus => cursor.bracketed().map(|x| Operand::BankedSPSR(x)),
+        Name::Mask => cursor.bracketed().map(|x| Operand::StatusRegMask(x)),
         Name::Application => Ok(Operand::APSR),
         Name::Saved => Ok(Operand::SPSR),
         Name::Current => Ok(Operand::CPSR),
