@@ -14,6 +14,7 @@ use sink::TextSink;
 const MAX_INSTRUCTION_LEN: usize = 512;
 
 // The first `len` of the bytes are the text: a line has at most 285.
+// Kept: a length beside the bytes, since a printer has fixed memory and no heap.
 #[derive(Drop)]
 pub struct InstructionTextBuffer {
     content: [u8; MAX_INSTRUCTION_LEN],

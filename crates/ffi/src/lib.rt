@@ -134,6 +134,7 @@ fn number_marks(marks: &[Mark], row: &mut [u64]) -> usize
     ensures row { row.new ≡ over (numbers_in (length row.old) marks.now) row.old }
 {
     let most = marks.len().min(row.len());
+    // Kept: written by place, since nothing is known of what a loop over a zip with `iter_mut` wrote.
     for (place, mark) in marks[..most].iter().enumerate() {
         row[place] = mark_number(*mark);
     }

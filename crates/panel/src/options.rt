@@ -1,6 +1,7 @@
 // What the program was asked for.
 use std::env;
 
+// Kept: a flag for each option, since each is given or not, by itself, and nothing else is told of it.
 #[derive(Drop)]
 pub struct Options {
     pub help: bool,
