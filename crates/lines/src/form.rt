@@ -1,14 +1,15 @@
 // What the line of an instruction shows, besides its name and its suffixes.
-ghost use Rattle.std.specs.Prelude.{All};
+ghost use Rattle.std.specs.Prelude.{◌≤◌, All, length};
 ghost use Rattle.lines.specs.Admission.{HasText};
 
 use armv7::{ConditionCode, Operand, Reg};
 use kind::{Codes, Transfer};
 
-// Operands that have a text, all of them.
+// At most four operands, each of which has a text.
 #[derive(Clone, Copy)]
 pub struct Reached<'a> {
     pub operands: &'a [Operand],
+    ghost few: { length operands.now ≤ 4 },
     ghost clean: { All HasText operands.now },
 }
 

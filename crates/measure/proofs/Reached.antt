@@ -1,58 +1,39 @@
 -- The sizes of the operands that are reached, added up one by one. Assumes nothing.
-use Rattle.std.proofs.Common.{◌≡◌, ℕ, ◌+◌, ◌*◌, ◌<◌, ◌≤◌, true, false, cond, List, [], ◌∷◌, map, length, get_or, drop, None, sym, refl, ap, ◌∙◌, subst, add-one, arith, drop-cons}
-use Rattle.std.proofs.lemmas.List.{drop_all}
+use Rattle.std.proofs.Common.{◌≡◌, ℕ, ◌+◌, ◌<◌, ◌≤◌, List, [], ◌∷◌, map, length, get_or, take, refl, ap, ◌∙◌, sym, arith}
+use Rattle.std.specs.List.{sum_by}
+use Rattle.std.proofs.lemmas.List.{take_all, take_more}
+use Rattle.std.proofs.lemmas.List.Sums.{sum_by-cons, sum_by-le, sum_by-take-le, sum_by_push}
 use Rattle.armv7.specs.declared.operand.Operand.{Operand}
 use Rattle.armv7.specs.declared.operand.Operand.TheVariants.{Reg as One}
 use Rattle.armv7.specs.declared.reg.Reg.TheVariants.{R0}
-use Rattle.visitor.specs.Operands.{operand_items, operand_refused}
-use Rattle.visitor.specs.Shapes.{shape, no_more}
+use Rattle.visitor.specs.Operands.{operand_items}
 use Rattle.visitor.specs.Texts.{followed}
-use Rattle.lines.specs.Admission.{reached_refused}
-use Rattle.lines.specs.Lines.{reached}
-use Rattle.display.proofs.Followed.{first_clean}
+use Rattle.blocks.proofs.Operands.{operand_row}
 use Rattle.measure.proofs.Sizes.{size, row_size}
 
--- the rows of the operands that are reached
-abbrev pub reached_size : List Operand → ℕ
-reached_size os = size (followed (map operand_items (reached os)))
+-- an operand, with a comma and a blank
+abbrev pub behind_comma : Operand → ℕ
+behind_comma o = 2 + size (operand_items o)
 
--- the first i operands were reached, and have n bytes
-pub record Sofar (os : List Operand) (i n : ℕ) : Type 0 where
-  pub sum : n + reached_size (drop i os) ≡ reached_size os
-  pub bound : n ≤ 67 * i
-  pub clean : reached_refused 0 (drop i os) ≡ None
+all_rows : (os : List Operand) → size (followed (map operand_items os)) ≡ sum_by behind_comma os
+all_rows [] = refl
+all_rows (o ∷ os) = omega (arith, row_size (operand_items o) (map operand_items os), all_rows os, sum_by-cons behind_comma o os)
 
-pub begun : (os : List Operand) → reached_refused 0 os ≡ None → Sofar os 0 0
-begun os c = record { sum = omega arith; bound = omega arith; clean = c }
+no_larger : (os : List Operand) → length os ≤ 4 → sum_by behind_comma os ≤ 268
+no_larger os few =
+    let each = sum_by-le behind_comma 67 os (λ k d within. let row = (operand_row (get_or os k d)).size in omega (arith, row)) in
+    omega (arith, each, few)
 
-pub past_end : (os : List Operand) {i n : ℕ} → length os ≤ i → Sofar os i n → n ≡ reached_size os
-past_end os {i} {n} h so = omega (arith, so.sum, ap reached_size (drop_all i os h))
+-- the first i of at most four operands have n bytes
+module _ (os : List Operand) (few : length os ≤ 4) (i : ℕ) {n : ℕ} (so : n ≡ sum_by behind_comma (take i os)) where
+  pub so_far : n ≤ 268
+  so_far = omega (arith, so, sum_by-take-le behind_comma os i, no_larger os few)
 
--- the operand at a place, as the code reads it
-abbrev at : List Operand → ℕ → Operand
-at os i = get_or os i (One R0)
+  pub past_end : length os ≤ i → n ≡ size (followed (map operand_items os))
+  past_end h = so ∙ ap (sum_by behind_comma) (take_all i os h) ∙ sym (all_rows os)
 
-module _ (os : List Operand) {i n : ℕ} (within : i < length os) (so : Sofar os i n) where
-  here : drop i os ≡ at os i ∷ drop (i + 1) os
-  here = drop-cons os i (One R0) within ∙ ap (λ k. at os i ∷ drop k os) (sym (add-one i))
-
-  -- no more operands are reached
-  pub ended : true ≡ no_more (shape (at os i)) → n ≡ reached_size os
-  ended e =
-      let none : reached_size (drop i os) ≡ 0 = ap reached_size here ∙ ap (λ b. size (followed (map operand_items (cond b [] (at os i ∷ reached (drop (i + 1) os)))))) (sym e) in
-      omega (arith, so.sum, none)
-
-  module _ (some : false ≡ no_more (shape (at os i))) where
-    parts : (operand_refused 0 (at os i) ≡ None) × (reached_refused 0 (drop (i + 1) os) ≡ None)
-    parts = first_clean (at os i) (drop (i + 1) os) some (ap (reached_refused 0) (sym here) ∙ so.clean)
-
-    pub fine : operand_refused 0 (at os i) ≡ None
-    fine = parts.0
-
-    -- one operand more
-    pub more : {m k : ℕ} → m ≡ size (operand_items (at os i)) → m ≤ 65 → k ≡ n + (2 + m) → Sofar os (i + 1) k
-    more {m} {k} e few s =
-        let rest = drop (i + 1) os in
-        let split : reached_size (drop i os) ≡ 2 + (size (operand_items (at os i)) + reached_size rest) =
-        ap reached_size here ∙ ap (λ b. size (followed (map operand_items (cond b [] (at os i ∷ reached rest))))) (sym some) ∙ row_size (operand_items (at os i)) (map operand_items (reached rest)) in
-        record { sum = omega (arith, so.sum, split, e, s); bound = omega (arith, so.bound, few, s); clean = parts.1 }
+  -- one operand more
+  pub more : i < length os → {m k : ℕ} → m ≡ size (operand_items (get_or os i (One R0))) → k ≡ n + (2 + m) → k ≡ sum_by behind_comma (take (i + 1) os)
+  more within e s =
+      let next = ap (sum_by behind_comma) (take_more os i (One R0) within) ∙ sum_by_push behind_comma (take i os) (get_or os i (One R0)) in
+      omega (arith, so, e, s, next)

@@ -3,7 +3,6 @@
 
 mod line;
 mod rows;
-mod system;
 mod word;
 
 pub use line::measure;

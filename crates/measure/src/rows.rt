@@ -1,19 +1,22 @@
 // The sizes of the rows behind a word, each with the comma and the blank before it.
-ghost use Rattle.std.specs.Prelude.{◌≡◌, ◌≤◌, ◌∷◌, ◌++◌, map, length, None};
-ghost use Rattle.sink.specs.Items.{bytes};
-ghost use Rattle.visitor.specs.Operands.{operand_items, operand_refused};
-ghost use Rattle.visitor.specs.Shapes.{shape, no_more};
-ghost use Rattle.visitor.specs.Texts.{decimal, followed};
-ghost use Rattle.lines.specs.Admission.{reached_refused};
+ghost use Rattle.std.specs.Prelude.{◌≡◌, ◌≤◌, [], ◌∷◌, ◌++◌, map, length};
 ghost use Rattle.kind.specs.Kinds.{optional};
-ghost use Rattle.lines.specs.Lines.{reached, code_row, code_rows};
+ghost use Rattle.sink.specs.Items.{bytes};
+ghost use Rattle.visitor.specs.Operands.{operand_items};
+ghost use Rattle.visitor.specs.Texts.{decimal, list_items, followed};
+ghost use Rattle.lines.specs.Admission.{HasText};
+ghost use Rattle.lines.specs.Codes.{mode_rows};
+ghost use Rattle.lines.specs.Lines.{code_row, code_rows, flag_row};
+ghost use Rattle.lines.specs.Forms.{block_rows as rows_of_block, rows_of};
 
+use crate::word::flagged_size;
 use armv7::Operand;
+use kind::Codes;
+use lines::{Block, Form, Reached};
 use measurer::measure;
 
-// The text of an operand that is not refused.
-pub(crate) fn operand_size(operand: Operand) -> usize
-    requires { operand_refused 0 operand ≡ None }
+fn operand_size(operand: Operand) -> usize
+    requires { HasText operand }
     ensures value { result ≡ length (bytes (operand_items operand)) }
     ensures bound { result ≤ 65 }
 {
@@ -23,27 +26,12 @@ pub(crate) fn operand_size(operand: Operand) -> usize
     }
 }
 
-fn is_missing(operand: Operand) -> bool
-    ensures { result ≡ no_more (shape operand) }
-{
-    match operand {
-        Operand::Nothing => true,
-        _ => false,
-    }
-}
-
-// The operands before the first Nothing.
-pub(crate) fn operand_rows(operands: &[Operand]) -> usize
-    requires few { length operands.now ≤ 4 }
-    requires clean { reached_refused 0 operands.now ≡ None }
-    ensures value { result ≡ length (bytes (followed (map operand_items (reached operands.now)))) }
+fn operand_rows(reached: Reached<'_>) -> usize
+    ensures value { result ≡ length (bytes (followed (map operand_items reached.entry.operands.now))) }
     ensures bound { result ≤ 268 }
 {
     let mut size = 0;
-    for operand in operands {
-        if is_missing(*operand) {
-            return size;
-        }
+    for operand in reached.operands {
         size += 2 + operand_size(*operand);
     }
     size
@@ -68,19 +56,69 @@ fn code_row_size(code: Option<u8>) -> usize
 }
 
 // The codes of a coprocessor form around its operands.
-pub(crate) fn coprocessor_rows(
-    coprocessor: u8,
-    second: Option<u8>,
-    third: Option<u8>,
-    operands: &[Operand],
-) -> usize
-    requires few { length operands.now ≤ 4 }
-    requires clean { reached_refused 0 operands.now ≡ None }
-    ensures value { result ≡ length (bytes (followed (code_rows (coprocessor ∷ optional second) ++ (map operand_items (reached operands.now) ++ map code_row (optional third))))) }
+fn coprocessor_rows(codes: Codes, reached: Reached<'_>) -> usize
+    ensures value { result ≡ length (bytes (followed (code_rows (codes.coprocessor ∷ optional codes.second) ++ (map operand_items reached.entry.operands.now ++ map code_row (optional codes.third))))) }
     ensures bound { result ≤ 281 }
 {
-    3 + decimal_size(coprocessor)
-        + code_row_size(second)
-        + operand_rows(operands)
-        + code_row_size(third)
+    3 + decimal_size(codes.coprocessor)
+        + code_row_size(codes.second)
+        + operand_rows(reached)
+        + code_row_size(codes.third)
+}
+
+fn list_row(mask: u16) -> usize
+    ensures value { result ≡ length (bytes (followed (list_items mask ∷ []))) }
+    ensures bound { result ≤ 67 }
+{
+    2 + operand_size(Operand::RegList(mask))
+}
+
+// The base and the list of a block transfer.
+fn block_rows(block: Block) -> usize
+    ensures value { result ≡ length (bytes (followed (rows_of_block block))) }
+    ensures bound { result ≤ 135 }
+{
+    2 + operand_size(Operand::RegWBack(block.base, block.wback))
+        + list_row(block.mask)
+        + flagged_size(block.transfer.user, 1)
+}
+
+// The interrupts that a CPS switches, where there are any.
+fn flags_size(flags: u16) -> usize
+    ensures value { result ≡ length (bytes (followed (flag_row flags))) }
+    ensures bound { result ≤ 5 }
+{
+    if flags == 0 {
+        return 0;
+    }
+    2 + flagged_size(flags / 4 % 2 == 1, 1)
+        + flagged_size(flags / 2 % 2 == 1, 1)
+        + flagged_size(flags % 2 == 1, 1)
+}
+
+// The mode that a CPS changes to, where there is one.
+fn mode_size(mode: Option<u16>) -> usize
+    ensures value { result ≡ length (bytes (followed (mode_rows mode))) }
+    ensures bound { result ≤ 68 }
+{
+    match mode {
+        Some(number) => 3 + operand_size(Operand::Imm12(number)),
+        None => 0,
+    }
+}
+
+// All rows of a line: that of an IT block is a condition, and that of SETEND an order of bytes, of two letters each.
+pub(crate) fn rows_size(form: Form<'_>) -> usize
+    ensures value { result ≡ length (bytes (followed (rows_of form.entry))) }
+    ensures bound { result ≤ 281 }
+{
+    match form {
+        Form::Plain(reached) => operand_rows(reached),
+        Form::Coprocessor(codes, reached) => coprocessor_rows(codes, reached),
+        Form::Block(block) => block_rows(block),
+        Form::Stack(block) => list_row(block.mask),
+        Form::One { reg, .. } => 4 + operand_size(Operand::Reg(reg)),
+        Form::It(_) | Form::Setend { .. } => 4,
+        Form::Cps { flags, mode } => flags_size(flags) + mode_size(mode),
+    }
 }

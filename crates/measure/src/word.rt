@@ -1,12 +1,10 @@
 // The size of a line's word.
-ghost use Rattle.std.specs.Prelude.{◌≡◌, ◌≤◌, ◌++◌, length, if◌then◌else◌};
-ghost use Rattle.opcode.specs.Forms.{bare, conditional};
-ghost use Rattle.kind.specs.Kinds.{suffixes_of};
-ghost use Rattle.opcode.specs.Names.{name_of};
-ghost use Rattle.lines.specs.Lines.{condition_suffix, suffix_of, suffix, suffixed};
+ghost use Rattle.std.specs.Prelude.{◌≡◌, ◌≤◌, length, if◌then◌else◌};
+ghost use Rattle.lines.specs.Lines.{condition_suffix};
+ghost use Rattle.lines.specs.Forms.{suffix_text, word_of};
 
 use armv7::{ConditionCode, Instruction};
-use kind::Suffixes;
+use lines::{Form, Suffix, letter_count, stack_word};
 
 // The size of a text that stands only under a flag.
 pub(crate) fn flagged_size(flag: bool, size: usize) -> usize
@@ -26,54 +24,27 @@ fn condition_size(condition: ConditionCode) -> usize
     }
 }
 
-fn suffix_size(s: bool, condition: ConditionCode, w: bool) -> usize
-    ensures value { result ≡ length (suffix_of s condition w) }
+fn suffix_size(suffix: Suffix) -> usize
+    ensures value { result ≡ length (suffix_text suffix) }
     ensures bound { result ≤ 5 }
 {
-    flagged_size(s, 1) + condition_size(condition) + flagged_size(w, 2)
+    flagged_size(suffix.s, 1) + condition_size(suffix.condition) + flagged_size(suffix.w, 2)
 }
 
-// A name with flags, condition and width behind it.
-pub(crate) fn word_size(name: &[u8], instruction: &Instruction) -> usize
-    requires { length name.now ≤ 7 }
-    ensures value { result ≡ length (name.now ++ suffix instruction.now) }
-    ensures bound { result ≤ 12 }
+// The name that is shown, and what stands behind it.
+pub(crate) fn word_size(form: Form<'_>, instruction: &Instruction) -> usize
+    ensures value { result ≡ length (word_of form.entry instruction.now) }
+    ensures bound { result ≤ 15 }
 {
-    name.len() + suffix_size(instruction.s, instruction.condition, instruction.thumb_w)
-}
-
-// The mnemonic with all that can stand behind it.
-pub(crate) fn own_word(instruction: &Instruction) -> usize
-    ensures value { result ≡ length (name_of instruction.now.opcode ++ suffix instruction.now) }
-    ensures bound { result ≤ 12 }
-{
-    word_size(instruction.opcode.name(), instruction)
-}
-
-// The mnemonic alone.
-fn bare_word(instruction: &Instruction) -> usize
-    ensures value { result ≡ length (name_of instruction.now.opcode ++ suffixed bare instruction.now) }
-    ensures bound { result ≤ 7 }
-{
-    instruction.opcode.name().len()
-}
-
-// The mnemonic with only the condition behind it.
-fn conditional_word(instruction: &Instruction) -> usize
-    ensures value { result ≡ length (name_of instruction.now.opcode ++ suffixed conditional instruction.now) }
-    ensures bound { result ≤ 9 }
-{
-    bare_word(instruction) + condition_size(instruction.condition)
-}
-
-// The mnemonic with what these suffixes let stand behind it.
-pub(crate) fn suffixed_word(suffixes: Suffixes, instruction: &Instruction) -> usize
-    ensures value { result ≡ length (name_of instruction.now.opcode ++ suffixed (suffixes_of suffixes) instruction.now) }
-    ensures bound { result ≤ 12 }
-{
-    match suffixes {
-        Suffixes::Bare => bare_word(instruction),
-        Suffixes::Conditional => conditional_word(instruction),
-        Suffixes::Full => own_word(instruction),
+    let own = instruction.opcode.name().len();
+    let suffix = suffix_size(Suffix::of(instruction));
+    match form {
+        Form::Stack(block) => stack_word(block.transfer.load).len() + suffix,
+        Form::One { load, .. } => stack_word(load).len() + suffix,
+        Form::It(block) => own + suffix + letter_count(block.mask),
+        Form::Coprocessor(codes, _) => {
+            own + suffix_size(Suffix::shown(codes.suffixes, instruction))
+        }
+        Form::Plain(_) | Form::Block(_) | Form::Cps { .. } | Form::Setend { .. } => own + suffix,
     }
 }

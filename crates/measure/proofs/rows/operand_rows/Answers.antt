@@ -1,20 +1,18 @@
-use Rattle.std.proofs.Common.{arith}
-use Rattle.measure.proofs.Reached.{begun, past_end, ended, fine, more}
+use Rattle.std.proofs.Common.{refl, arith}
+use Rattle.measure.proofs.Reached.{so_far, past_end, more}
 use Rattle.measure.proofs.rows.operand_rows.Goals as goal
 
-pub loop-operand-init : goal.loop-operand-init
-loop-operand-init c = begun c.args.operands.now c.requires.clean
-
-pub returns-then-is_missing : goal.returns-then-is_missing
-returns-then-is_missing c =
-    record { value = ended c.args.operands.now c.loop-operand-test.true c.loop-operand.invariant c.if-is_missing.ensures; bound = omega arith }
-
-pub operand_size-requires : goal.operand_size-requires
-operand_size-requires c = fine c.args.operands.now c.loop-operand-test.true c.loop-operand.invariant c.if-is_missing.ensures
+pub overflow_add-size-in-loop-operand : goal.overflow_add-size-in-loop-operand
+overflow_add-size-in-loop-operand c =
+    let fits = so_far c.args.reached.operands.now c.args.reached.few _ c.loop-operand.invariant in
+    record { fits = omega (arith, fits) }
 
 pub loop-operand-preserved : goal.loop-operand-preserved
 loop-operand-preserved c =
-    more c.args.operands.now c.loop-operand-test.true c.loop-operand.invariant c.if-is_missing.ensures c.operand_size.ensures.value c.operand_size.ensures.bound (omega arith)
+    more c.args.reached.operands.now c.args.reached.few _ c.loop-operand.invariant c.loop-operand-test.true c.operand_size.ensures.value refl
 
 pub returns : goal.returns
-returns c = record { value = past_end c.args.operands.now c.loop-operand-test.false c.loop-operand.invariant; bound = omega arith }
+returns c = record {
+  value = past_end c.args.reached.operands.now c.args.reached.few _ c.loop-operand.invariant c.loop-operand-test.false;
+  bound = so_far c.args.reached.operands.now c.args.reached.few _ c.loop-operand.invariant;
+}
