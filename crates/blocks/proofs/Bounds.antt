@@ -1,6 +1,6 @@
 -- Every line is bounded. Assumes nothing.
 use Rattle.std.proofs.Common.{◌≡◌, ℕ, ◌+◌, ◌-◌, ◌*◌, ◌/◌, ◌%◌, ◌≤◌, Bool, true, false, cond, not, ◌&&◌, eqb, List, [], ◌∷◌, ◌++◌, map, length, codes, sym, refl, ap, ◌∙◌, subst, append_assoc, arith, lit≤}
-use Rattle.std.proofs.lemmas.Bool.{leb-true}
+use Rattle.std.proofs.lemmas.Bool.{cond_both, leb-true}
 use Rattle.armv7.specs.declared.condition.ConditionCode.{ConditionCode}
 use Rattle.armv7.specs.declared.instruction.Instruction.{Instruction}
 use Rattle.armv7.specs.declared.operand.Operand.{Operand}
@@ -88,8 +88,7 @@ one_fine name r i h =
     (one_row (row_append (row_text (text 1 (codes "{") refl)) (row_span Register (reg_row r) (row_text (text 1 (codes "}") refl)))) no_rows)
 
 either_fine : (b : Bool) {p q : Parts} → Fine p → Fine q → Fine (cond b p q)
-either_fine true h k = h
-either_fine false h k = k
+either_fine b h k = cond_both b _ _ Fine (λ _. h) (λ _. k)
 
 it_text : (c m : ℕ) → Text 3 (it_letters c m)
 it_text c m = text 3 (it_letters c m) (grind arith)
@@ -97,16 +96,12 @@ it_text c m = text 3 (it_letters c m) (grind arith)
 cps_text : (n : ℕ) → Text 3 (cps_letters n)
 cps_text n = text_append (text_if (eqb (n / 4 % 2) 1) (text 1 (codes "a") refl)) (text_append (text_if (eqb (n / 2 % 2) 1) (text 1 (codes "i") refl)) (text_if (eqb (n % 2) 1) (text 1 (codes "f") refl)))
 
-either_rows : {n m : ℕ} {a b : List (List Item)} (t : Bool) → Rows n m a → Rows n m b → Rows n m (cond t a b)
-either_rows true h k = h
-either_rows false h k = k
-
 row_of_text : {n : ℕ} {t : List ℕ} → Text n t → Rows (2 + (n + 0)) 0 (text_items t ∷ [])
 row_of_text h = one_row (row_text h) no_rows
 
 cps_fine_rows : (n : ℕ) (s : Shape) → Rows 14 0 (cps_rows n s)
 cps_fine_rows n s =
-    rows_append (either_rows (eqb n 0) (rows_within (lit≤ tt) (lit≤ tt) no_rows) (row_of_text (cps_text n)))
+    rows_append (cond_both (eqb n 0) _ _ (Rows 5 0) (λ _. rows_within (lit≤ tt) (lit≤ tt) no_rows) (λ _. row_of_text (cps_text n)))
     (by_imm12 (Rows 9 0) s (λ k. row_of_text (text_append (text 1 (codes "#") refl) (prefixed_text 4 k))) (rows_within (lit≤ tt) (lit≤ tt) no_rows))
 
 codes_rows : (cs : List ℕ) → Rows (4 * length cs) 0 (map code_row cs)

@@ -1,6 +1,7 @@
 -- Parts of a line with the one sheet that the line fits, or with none. Assumes nothing.
-use Rattle.std.proofs.Common.{◌≡◌, ℕ, Bool, true, false, cond, not, ◌||◌, eqb, ◌↔◌, List, [], ◌∷◌, ◌++◌, Some, None, codes, Option, sym, refl, ap, ◌∙◌, subst, append_assoc, arith}
+use Rattle.std.proofs.Common.{◌≡◌, ℕ, Bool, true, false, not, ◌||◌, eqb, ◌↔◌, List, [], ◌∷◌, ◌++◌, Some, None, codes, Option, sym, refl, ap, ◌∙◌, subst, append_assoc}
 use Rattle.std.proofs.lemmas.Bool.{and_parts, eqb-false, false≢true}
+use Rattle.std.proofs.lemmas.Option.{none-some}
 use Rattle.sink.specs.Items.{Item, bytes}
 use Rattle.lines.specs.Lines.{Parts, behind_word, line_of}
 use Rattle.blocks.specs.declared.fields.Sheet.{Sheet}
@@ -16,14 +17,11 @@ pub record Exactly (p : Parts) (o : Option Sheet) : Type 0 where
 some_same : (s t : Sheet) → Some s ≡ Some t → s ≡ t
 some_same s t e = cc
 
-none_some : (t : Sheet) → ◌≡◌ {A = Option Sheet} None (Some t) → ⊥
-none_some t e = let z : ◌≡◌ {A = ℕ} 0 1 = cc in omega arith
-
 pub exactly_one : {p : Parts} {s : Sheet} → Fits (bytes (line_of p)) s → Exactly p (Some s)
 exactly_one {p} {s} f = record { fits = λ t. (λ g. ap Some (one_sheet (bytes (line_of p)) s t f g), λ e. subst (Fits (bytes (line_of p))) (some_same s t e) f) }
 
 pub exactly_none : {p : Parts} → ((t : Sheet) → Fits (bytes (line_of p)) t → ⊥) → Exactly p None
-exactly_none n = record { fits = λ t. (λ g. absurd (n t g), λ e. absurd (none_some t e)) }
+exactly_none n = record { fits = λ t. (λ g. absurd (n t g), λ e. absurd (none-some t e)) }
 
 apart_front : (front name x y : List ℕ) → differs front name ≡ true → name ++ x ≡ front ++ y → ⊥
 apart_front [] name x y h e = false≢true h
@@ -63,7 +61,3 @@ never_fits name x t h (transfer_line f) = by t.load f.written
 pub apart_none : (name x : List ℕ) (rows : List (List Item)) → apart name ≡ true → Exactly (record { word = name ++ x; rows = rows }) None
 apart_none name x rows h =
     exactly_none (λ t f. never_fits name (x ++ bytes (behind_word rows)) t h (subst (λ b. Fits b t) (line_bytes (name ++ x) rows ∙ append_assoc name x (bytes (behind_word rows))) f))
-
-pub either : {p q : Parts} {o r : Option Sheet} (b : Bool) → Exactly p o → Exactly q r → Exactly (cond b p q) (cond b o r)
-either true h k = h
-either false h k = k

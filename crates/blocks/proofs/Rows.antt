@@ -1,7 +1,8 @@
 -- Bounded rows are put together from bounded texts, and spans around them. Assumes nothing.
-use Rattle.std.proofs.Common.{◌≡◌, ℕ, suc, ◌+◌, ◌-◌, ◌≤◌, Bool, true, false, cond, not, ◌&&◌, eqb, leb, List, [], ◌∷◌, ◌++◌, length, sym, refl, ap, ◌∙◌, subst, append_assoc, arith, length-append}
+use Rattle.std.proofs.Common.{◌≡◌, ℕ, suc, ◌+◌, ◌-◌, ◌≤◌, Bool, true, cond, not, ◌&&◌, eqb, leb, List, [], ◌∷◌, ◌++◌, length, sym, refl, ap, ◌∙◌, subst, append_assoc, arith, length-append}
+use Rattle.std.specs.List.{list_all}
 use Rattle.std.proofs.ByRecursion.{All-append}
-use Rattle.std.proofs.lemmas.Bool.{and_parts, eqb-false, leb-true, not-true}
+use Rattle.std.proofs.lemmas.Bool.{and_parts, cond_both, eqb-false, leb-true, not-true}
 use Rattle.sink.specs.declared.sink.Edge.TheVariants.{Start, End}
 use Rattle.sink.specs.declared.sink.Span.{Span}
 use Rattle.sink.specs.Items.{Item, byte, edge, text_items, bytes, marks_from}
@@ -36,8 +37,7 @@ pub record Text (n : ℕ) (t : List ℕ) : Type 0 where
   pub one_line : OneLine t
 
 abbrev pub no_break : List ℕ → Bool
-no_break [] = true
-no_break (b ∷ t) = not (eqb b 10) && no_break t
+no_break t = list_all (λ b. not (eqb b 10)) t
 
 unbroken : (t : List ℕ) → no_break t ≡ true → OneLine t
 unbroken [] e = tt
@@ -82,12 +82,10 @@ pub text : (n : ℕ) (t : List ℕ) → (leb (length t) n && no_break t) ≡ tru
 text n t e = let h = and_parts (leb (length t) n) (no_break t) e in record { size = leb-true (length t) n h.0; one_line = unbroken t h.1 }
 
 pub text_if : {n : ℕ} {t : List ℕ} (b : Bool) → Text n t → Text n (cond b t [])
-text_if true h = h
-text_if false h = record { size = omega arith; one_line = tt }
+text_if b h = cond_both b _ _ (Text _) (λ _. h) (λ _. record { size = omega arith; one_line = tt })
 
 pub text_either : {n : ℕ} {t u : List ℕ} (b : Bool) → Text n t → Text n u → Text n (cond b t u)
-text_either true h k = h
-text_either false h k = k
+text_either b h k = cond_both b _ _ (Text _) (λ _. h) (λ _. k)
 
 nested_behind : (b : ℕ) (is : List Item) → Nested (byte b ∷ is) → Nested is
 nested_behind b is (byte_then c h) = h

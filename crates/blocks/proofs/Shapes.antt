@@ -1,5 +1,5 @@
 -- What holds where an operand has a shape and where it has another holds of every choice by that shape. Assumes nothing.
-use Rattle.std.proofs.Common.{ℕ, Bool}
+use Rattle.std.proofs.Common.{ℕ, Bool, true, false, cond}
 use Rattle.armv7.specs.declared.reg.Reg.{Reg}
 use Rattle.visitor.specs.Shapes.{Shape, one, base, list, post, pre, imm12, imm32, nothing, other, if_one, if_base, if_list, if_post, if_pre, if_imm12, if_imm32}
 
@@ -86,3 +86,8 @@ by_imm32 R (imm12 n) x y = y
 by_imm32 R (imm32 n) x y = x n
 by_imm32 R nothing x y = y
 by_imm32 R other x y = y
+
+-- the same of a choice by a test
+pub by_test : {A B : Type 0} (R : A → B → Type 0) (b : Bool) {f d : A} {g e : B} → R f g → R d e → R (cond b f d) (cond b g e)
+by_test R true x y = x
+by_test R false x y = y

@@ -1,6 +1,7 @@
 -- The line of an instruction that is printed fits its own sheet, and no other. Assumes nothing.
 use Rattle.std.proofs.Common.{◌≡◌, ℕ, Bool, true, false, not, ◌&&◌, List, [], ◌∷◌, ◌++◌, map, Some, None, codes, sym, refl, ap, ◌∙◌, subst, ap₂, append_assoc, append-nil}
 use Rattle.std.proofs.lemmas.Bool.{and_parts, cond_both, eqb-true, not-true, false≢true}
+use Rattle.std.proofs.lemmas.Option.{none-some}
 use Rattle.armv7.specs.declared.instruction.Instruction.{Instruction}
 use Rattle.armv7.specs.declared.reg.Reg.{Reg}
 use Rattle.armv7.specs.declared.reg.Reg.TheVariants.{R13}
@@ -17,11 +18,11 @@ use Rattle.lines.specs.Admission.{refused, refused_by, block_shape, reached_refu
 use Rattle.lines.specs.Lines.{own_parts, one_parts, block_parts, parts_by, line, suffix, reached, four, operand, shape_at, at_sp, stack_direction, stack_name as own_stack_name}
 use Rattle.blocks.specs.Grammar.{optional, letters, name_letters, transfer, stack_name, transfer_line, stack_line, Listed}
 use Rattle.blocks.specs.Sheets.{sheet_with, low, one_sheet, block_sheet, list_sheet, sheet_by, sheet_of, OwnSheets}
-use Rattle.blocks.proofs.Exact.{Exactly, exactly_one, apart_none, either}
+use Rattle.blocks.proofs.Exact.{Exactly, exactly_one, apart_none}
 use Rattle.blocks.proofs.Opcodes.{said, own_name, apart, apart_by, others_apart}
 use Rattle.blocks.proofs.Printed.{reg_bytes, line_bytes}
-use Rattle.blocks.proofs.Shapes.{by_one, by_base, by_list, by_post, by_pre, by_imm12, by_imm32}
-use Rattle.blocks.proofs.Stack.{stack_word, listed_mask, listed_one, stack_fits, refused_none, stack_exact}
+use Rattle.blocks.proofs.Shapes.{by_one, by_base, by_list, by_post, by_pre, by_imm12, by_imm32, by_test}
+use Rattle.blocks.proofs.Stack.{stack_word, listed_mask, listed_one, stack_fits, stack_exact}
 use Rattle.blocks.proofs.Tables.{same_registers}
 
 own_none : (i : Instruction) → apart (name_of i.opcode) ≡ true → Exactly (own_parts i) None
@@ -108,8 +109,8 @@ block_exact load add pre wback user i e =
     (λ mask n. cond_both (stack_direction load add pre && (not wback && (not user && (at_sp b && w)))) _ _ (λ p. Exactly p (Some (sheet_with load add pre b w (low mask) user i)))
     (λ q. on_stack load add pre wback user i b w (low mask) (list_items mask) (listed_mask mask) q)
     (λ q. transfer_exact load add pre user i b w (low mask) (list_items mask) (listed_mask mask) (name_of i.opcode) e))
-    (λ n. absurd (refused_none _ n)))
-    (λ n. absurd (refused_none _ n))
+    (λ n. absurd (none-some _ (sym n))))
+    (λ n. absurd (none-some _ (sym n)))
 
 list_exact : (load : Bool) (i : Instruction) → name_of i.opcode ≡ name_letters (stack_name load) → reached_refused 0 (four i) ≡ None → Exactly (own_parts i) (list_sheet load (shape_at 0 i) (shape_at 1 i) i)
 list_exact load i e n =
@@ -120,11 +121,11 @@ parts_exact : (f : Form) (i : Instruction) → name_of i.opcode ≡ said f (name
 parts_exact (block load add pre wback user) i e h n = block_exact load add pre wback user i e n
 parts_exact load_one i e h n =
     by_one Exactly (shape_at 0 i)
-    (λ t. by_post Exactly (shape_at 1 i) (λ b k a w. either _ (one_exact true t i) (own_none i h)) (own_none i h))
+    (λ t. by_post Exactly (shape_at 1 i) (λ b k a w. by_test Exactly _ (one_exact true t i) (own_none i h)) (own_none i h))
     (own_none i h)
 parts_exact store_one i e h n =
     by_one Exactly (shape_at 0 i)
-    (λ t. by_pre Exactly (shape_at 1 i) (λ b k a w. either _ (one_exact false t i) (own_none i h)) (own_none i h))
+    (λ t. by_pre Exactly (shape_at 1 i) (λ b k a w. by_test Exactly _ (one_exact false t i) (own_none i h)) (own_none i h))
     (own_none i h)
 parts_exact pop i e h n = list_exact true i e n
 parts_exact push i e h n = list_exact false i e n

@@ -1,7 +1,8 @@
 -- Two texts that are equal, each cut where a run of bytes ends, are equal in both parts. Assumes nothing.
 use Rattle.std.proofs.Common.{◌≡◌, ℕ, Bool, true, ◌&&◌, leb, List, [], ◌∷◌, ◌++◌, length, get_or, drop, sym, refl, ap, subst, ap₂, arith}
-use Rattle.std.specs.List.{AllByRecursion}
-use Rattle.std.proofs.lemmas.Bool.{and_parts}
+use Rattle.std.specs.List.{AllByRecursion, list_all}
+use Rattle.std.proofs.lemmas.List.Elements.{recursion_from_All}
+use Rattle.std.proofs.lemmas.List.Sums.{AllPass-from_list_all}
 
 pub same_head : {x y : ℕ} {a b : List ℕ} → x ∷ a ≡ y ∷ b → x ≡ y
 same_head e = ap (λ t. get_or t 0 0) e
@@ -34,10 +35,5 @@ plain b = leb 46 b && leb b 122
 abbrev pub Plain : ℕ → Type 0
 Plain b = plain b ≡ true
 
-abbrev pub plain_text : List ℕ → Bool
-plain_text [] = true
-plain_text (b ∷ t) = plain b && plain_text t
-
-pub all_plain : (t : List ℕ) → plain_text t ≡ true → AllByRecursion Plain t
-all_plain [] e = tt
-all_plain (b ∷ t) e = let h = and_parts (plain b) (plain_text t) e in (h.0, all_plain t h.1)
+pub all_plain : (t : List ℕ) → list_all plain t ≡ true → AllByRecursion Plain t
+all_plain t e = recursion_from_All Plain t (AllPass-from_list_all plain t e)

@@ -1,11 +1,11 @@
 -- Lines of pop and push: with a list and nothing else they fit its sheet, and any other such line fits none. Assumes nothing.
-use Rattle.std.proofs.Common.{◌≡◌, ℕ, ◌^◌, Bool, true, false, cond, List, [], ◌∷◌, ◌++◌, map, pos, negsuc, Some, None, codes, Option, sym, refl, ap, ◌∙◌, subst, append-nil, add-zero, arith}
+use Rattle.std.proofs.Common.{◌≡◌, ℕ, ◌^◌, Bool, true, false, cond, List, [], ◌∷◌, ◌++◌, map, pos, negsuc, Some, None, codes, sym, refl, ap, ◌∙◌, subst, append-nil, add-zero, arith}
 use Rattle.std.proofs.lemmas.Bool.{false≢true, true≢false}
+use Rattle.std.proofs.lemmas.Option.{none-some}
 use Rattle.armv7.specs.declared.instruction.Instruction.{Instruction}
 use Rattle.armv7.specs.declared.operand.Operand.{Operand}
 use Rattle.armv7.specs.declared.operand.Operand.TheVariants.{Reg as One, RegWBack, RegList, RegDeref, RegShift as Shifted, RegDerefPostindexRegShift, RegDerefPreindexRegShift, RegDerefPostindexOffset, RegDerefPreindexOffset, RegDerefPostindexReg, RegDerefPreindexReg, Imm12, Imm32, BranchOffset, BranchThumbOffset, Coprocessor, CoprocOption, CReg as Control, BankedReg, BankedSPSR, StatusRegMask as Fields, APSR, SPSR, CPSR, Nothing}
 use Rattle.armv7.specs.declared.reg.Reg.{Reg}
-use Rattle.armv7.specs.Faults.{Refusal}
 use Rattle.armv7.specs.Registers.{reg_name, reg_number}
 use Rattle.armv7.specs.Shifts.{shift_fields, shift_word}
 use Rattle.sink.specs.Items.{Item, bytes}
@@ -65,9 +65,6 @@ unbraced_none load i is rows u =
     (λ rs e. true≢false (sym (brace_list rs) ∙ sym (ap brace (same_rest e)) ∙ u.otherwise (followed rows)))
     t (subst (λ b. Fits b t) (line_bytes (letters (stack_word load i)) (is ∷ rows)) f))
 
-pub refused_none : (f : Refusal) → ◌≡◌ {A = Option Refusal} (Some f) None → ⊥
-refused_none f e = let z : ◌≡◌ {A = ℕ} 0 1 = cc in omega arith
-
 -- the line of these operands, which are not refused, and the sheet that it fits
 abbrev pub Line : Bool → Instruction → Operand → Operand → List Operand → Type 0
 Line load i o p os =
@@ -119,7 +116,7 @@ stack_exact load i (BranchOffset (pos n)) p os h = unbraced_none load i _ _ (unb
 stack_exact load i (BranchOffset (negsuc n)) p os h = unbraced_none load i _ _ (unbraced_byte refl)
 stack_exact load i (BranchThumbOffset (pos n)) p os h = unbraced_none load i _ _ (unbraced_byte refl)
 stack_exact load i (BranchThumbOffset (negsuc n)) p os h = unbraced_none load i _ _ (unbraced_byte refl)
-stack_exact load i (Coprocessor n) p os h = absurd (refused_none _ h)
+stack_exact load i (Coprocessor n) p os h = absurd (none-some _ (sym h))
 stack_exact load i (CoprocOption n) p os h = unbraced_none load i _ _ (record { otherwise = λ x. refl })
 stack_exact load i (Control c) p os h = unbraced_none load i _ _ (unbraced_span refl)
 stack_exact load i (BankedReg b r) p os h = unbraced_none load i _ _ (unbraced_banked r _)

@@ -1,13 +1,13 @@
 -- A word is read back: a name with its suffixes comes from one reading only. Assumes nothing.
 use Rattle.std.proofs.Common.{◌≡◌, ℕ, Bool, true, false, cond, not, ◌&&◌, ◌||◌, eqb, List, [], ◌∷◌, get_or, drop, sym, refl, ap, ◌∙◌, arith}
-use Rattle.std.specs.List.{AllByRecursion}
+use Rattle.std.specs.List.{AllByRecursion, list_all}
 use Rattle.std.proofs.lemmas.Bool.{and_parts, eqb-true}
 use Rattle.armv7.specs.declared.condition.ConditionCode.{ConditionCode}
 use Rattle.armv7.specs.declared.condition.ConditionCode.TheVariants.{AL}
 use Rattle.armv7.specs.Conditions.{condition_name, condition_number}
 use Rattle.blocks.specs.Grammar.{Name, pop, push, transfer, Word, letters, OneWord}
-use Rattle.blocks.proofs.Tables.{every, conditions, at_condition, same_conditions}
-use Rattle.blocks.proofs.Split.{Plain, plain_text, all_plain}
+use Rattle.blocks.proofs.Tables.{conditions, at_condition, same_conditions}
+use Rattle.blocks.proofs.Split.{plain, Plain, all_plain}
 
 abbrev at : ℕ → List ℕ → ℕ
 at n t = get_or t n 0
@@ -73,7 +73,7 @@ abbrev over_names : (Name → Bool) → Bool
 over_names f = f pop && (f push && over_bools (λ a. over_bools (λ b. over_bools (λ c. f (transfer a b c)))))
 
 abbrev over_words : (Word → Bool) → Bool
-over_words f = over_names (λ n. over_bools (λ s. every (λ c. over_bools (λ w. f (record { name = n; s = s; condition = c; w = w }))) conditions))
+over_words f = over_names (λ n. over_bools (λ s. list_all (λ c. over_bools (λ w. f (record { name = n; s = s; condition = c; w = w }))) conditions))
 
 at_bool : (f : Bool → Bool) → over_bools f ≡ true → (b : Bool) → f b ≡ true
 at_bool f e true = (and_parts (f true) (f false) e).0
@@ -92,10 +92,10 @@ at_word f e v = at_bool by_w (at_condition by_condition (at_bool by_s (at_name b
     by_condition c = over_bools (λ w. f (record { name = v.name; s = v.s; condition = c; w = w }))
 
     by_s : Bool → Bool
-    by_s s = every (λ c. over_bools (λ w. f (record { name = v.name; s = s; condition = c; w = w }))) conditions
+    by_s s = list_all (λ c. over_bools (λ w. f (record { name = v.name; s = s; condition = c; w = w }))) conditions
 
     by_name : Name → Bool
-    by_name n = over_bools (λ s. every (λ c. over_bools (λ w. f (record { name = n; s = s; condition = c; w = w }))) conditions)
+    by_name n = over_bools (λ s. list_all (λ c. over_bools (λ w. f (record { name = n; s = s; condition = c; w = w }))) conditions)
 
 same_bools : (a b : Bool) → same a b ≡ true → a ≡ b
 same_bools a b e = grind arith
@@ -120,7 +120,7 @@ read_back : (v : Word) → read (letters v) ≡ v
 read_back v = same_words (read (letters v)) v (at_word (λ u. same_word (read (letters u)) u) refl v)
 
 pub plain_words : (v : Word) → AllByRecursion Plain (letters v)
-plain_words v = all_plain (letters v) (at_word (λ u. plain_text (letters u)) refl v)
+plain_words v = all_plain (letters v) (at_word (λ u. list_all plain (letters u)) refl v)
 
 pub one_word : OneWord
 one_word u v e = sym (read_back u) ∙ ap read e ∙ read_back v

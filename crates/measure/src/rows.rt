@@ -15,6 +15,7 @@ use kind::Codes;
 use lines::{Block, Form, Reached};
 use measurer::measure;
 
+// The measurer refuses only what has no text.
 fn operand_size(operand: Operand) -> usize
     requires { HasText operand }
     ensures value { result ≡ length (bytes (operand_items operand)) }
@@ -37,6 +38,7 @@ fn operand_rows(reached: Reached<'_>) -> usize
     size
 }
 
+// As in measurer, which keeps its own to itself.
 fn decimal_size(number: u8) -> usize
     ensures value { result ≡ length (decimal number) }
     ensures bound { result ≤ 2 }
