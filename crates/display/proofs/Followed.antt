@@ -1,5 +1,5 @@
 -- Operands that are written one after the other, each behind a comma. Assumes nothing.
-use Rattle.std.proofs.Common.{◌≡◌, ℕ, suc, ◌+◌, ◌-◌, ◌<◌, ◌≤◌, Bool, true, false, cond, List, [], ◌∷◌, ◌++◌, All, map, length, get_or, take, drop, IsErrAnd, Some, None, codes, Option, Result, sym, refl, ap, ◌∙◌, subst, append_assoc, append-nil, add-one, arith, drop-cons}
+use Rattle.std.proofs.Common.{◌≡◌, ℕ, ◌+◌, ◌-◌, ◌<◌, ◌≤◌, List, [], ◌∷◌, ◌++◌, All, map, length, get_or, take, drop, IsErrAnd, Some, None, codes, Option, Result, sym, refl, ap, ◌∙◌, subst, append_assoc, append-nil, add-one, arith, drop-cons}
 use mathlib.Core.List.{map-append}
 use Rattle.std.proofs.lemmas.List.{take_more, take_all, take-append-drop}
 use Rattle.armv7.specs.declared.fault.Fault.{Fault}
@@ -13,41 +13,15 @@ use Rattle.sink.specs.Printed.{Printed}
 use Rattle.sink.specs.Outcome.{outcome}
 use Rattle.sink.proofs.Chain.{both, stop}
 use Rattle.visitor.specs.Operands.{operand_items, operand_refused}
-use Rattle.visitor.specs.Shapes.{shape, no_more}
 use Rattle.visitor.specs.Texts.{followed}
 use Rattle.visitor.specs.Visits.{PrintedUnless}
 use Rattle.visitor.proofs.Pieces.{renamed}
-use Rattle.lines.specs.Admission.{first_of, reached_refused, HasText}
+use Rattle.lines.specs.Admission.{HasText}
 
 pub followed_append : (xs ys : List (List Item)) → followed (xs ++ ys) ≡ followed xs ++ followed ys
 followed_append [] ys = refl
 followed_append (x ∷ xs) ys =
     ap (λ r. text_items (codes ", ") ++ r) (ap (λ r. x ++ r) (followed_append xs ys) ∙ sym (append_assoc x (followed xs) (followed ys)))
-
--- whether an operand is refused does not hang on its place
-place_free : (p q : ℕ) (o : Operand) → operand_refused p o ≡ None → operand_refused q o ≡ None
-place_free p q o e = grind arith
-
-pub both_none : (f g : Option Refusal) → first_of f g ≡ None → (f ≡ None) × (g ≡ None)
-both_none None g e = (refl, e)
-both_none (Some f) g e = absurd (let z : ◌≡◌ {A = ℕ} 0 1 = cc in omega arith)
-
--- nor does it for a row of operands
-pub places_free : (p q : ℕ) (os : List Operand) → reached_refused p os ≡ None → reached_refused q os ≡ None
-places_free p q [] e = refl
-places_free p q (o ∷ os) e = by (no_more (shape o)) e (places_free (suc p) (suc q) os)
-  where
-    by : (b : Bool) → cond b None (first_of (operand_refused p o) (reached_refused (suc p) os)) ≡ None → (reached_refused (suc p) os ≡ None → reached_refused (suc q) os ≡ None) → cond b None (first_of (operand_refused q o) (reached_refused (suc q) os)) ≡ None
-    by true e f = refl
-    by false e f =
-        let parts = both_none (operand_refused p o) (reached_refused (suc p) os) e in
-        ap (λ x. first_of x (reached_refused (suc q) os)) (place_free p q o parts.0) ∙ f parts.1
-
--- the first of a row of operands is not refused, and neither are the others
-pub first_clean : (o : Operand) (os : List Operand) → false ≡ no_more (shape o) → reached_refused 0 (o ∷ os) ≡ None → (operand_refused 0 o ≡ None) × (reached_refused 0 os ≡ None)
-first_clean o os some e =
-    let parts = both_none (operand_refused 0 o) (reached_refused 1 os) (ap (λ b. cond b None (first_of (operand_refused 0 o) (reached_refused 1 os))) some ∙ e) in
-    (parts.0, places_free 1 0 os parts.1)
 
 -- an operand that is reached and not refused is printed
 pub printed_at : {S : Type 0} {meaning : S → Meaning} {kept : S → S → Type 0} (o : Operand) {s t : S} {r : Option Refusal} → operand_refused 0 o ≡ None → PrintedUnless meaning kept (operand_refused 0 o) (operand_items o) s r t → Printed meaning kept (operand_items o) s r t

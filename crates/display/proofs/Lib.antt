@@ -1,5 +1,4 @@
 pub mod Followed
 pub mod Modes
-pub mod Transfers
 pub mod Unless
 pub mod Words

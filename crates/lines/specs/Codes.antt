@@ -1,31 +1,14 @@
--- What the code takes out of an opcode and its operands before it prints them. Assumes nothing.
+-- What the code takes out of the operands before it prints them. Assumes nothing.
 use Rattle.std.specs.Prelude.{ℕ, Bool, true, false, cond, not, ◌&&◌, List, [], ◌∷◌, ◌++◌, Some, None, codes, Option, ◌==◌, slice_index_or}
-use Rattle.armv7.specs.declared.condition.ConditionCode.{ConditionCode}
-use Rattle.armv7.specs.declared.condition.ConditionCode.TheVariants.{AL}
-use Rattle.armv7.specs.declared.instruction.Instruction.{Instruction}
 use Rattle.armv7.specs.declared.operand.Operand.{Operand}
 use Rattle.armv7.specs.declared.operand.Operand.TheVariants.{Reg as One}
 use Rattle.armv7.specs.declared.reg.Reg.{Reg}
 use Rattle.armv7.specs.declared.reg.Reg.TheVariants.{R0}
-use Rattle.opcode.specs.Forms.{Suffixes, bare, conditional, full}
-use Rattle.opcode.specs.Names.{name_of}
 use Rattle.kind.specs.declared.Transfer.{Transfer}
 use Rattle.sink.specs.Items.{Item, text_items}
 use Rattle.visitor.specs.Shapes.{Shape, shape, no_more, if_one, if_post, if_pre, if_imm12}
-use Rattle.visitor.specs.Operands.{bang}
-use Rattle.visitor.specs.Texts.{flagged, reg_items, list_items, prefixed}
-use Rattle.lines.specs.Lines.{Parts, suffix, at_sp, stack_direction, stack_name}
-
--- the flags and the condition that are shown of an instruction with these suffixes
-abbrev pub shown_s : Suffixes → Bool → Bool
-shown_s bare s = false
-shown_s conditional s = false
-shown_s full s = s
-
-abbrev pub condition_shown : Suffixes → ConditionCode → ConditionCode
-condition_shown bare c = AL
-condition_shown conditional c = c
-condition_shown full c = c
+use Rattle.visitor.specs.Texts.{prefixed}
+use Rattle.lines.specs.Lines.{at_sp, stack_direction}
 
 -- the register that a load pops, if it is a pop
 abbrev pub popped : Shape → Shape → Shape → Shape → Option Reg
@@ -53,16 +36,6 @@ one_on_stack false os = pushed (shape_in 0 os) (shape_in 1 os) (shape_in 2 os) (
 -- whether a block transfer with this base is a pop or a push
 abbrev pub on_stack : Transfer → Reg → Bool → Bool
 on_stack t b w = stack_direction t.load t.add t.pre && (not t.wback && (not t.user && (at_sp b && w)))
-
--- a block transfer with this base and list
-abbrev pub transfer_parts : Transfer → Instruction → Reg → Bool → ℕ → Parts
-transfer_parts t i b w mask =
-    cond (on_stack t b w)
-    (record { word = stack_name t.load ++ suffix i; rows = list_items mask ∷ [] })
-    (record {
-      word = name_of i.opcode ++ suffix i;
-      rows = (reg_items b ++ text_items (bang w)) ∷ (list_items mask ++ text_items (flagged t.user (codes "^"))) ∷ [];
-    })
 
 -- the mode of a CPS, if it has one
 abbrev pub mode_of : Shape → Option ℕ

@@ -1,7 +1,6 @@
 // The four forms that are printed under another name.
 ghost use Rattle.std.specs.Prelude.{◌≡◌};
-ghost use Rattle.visitor.specs.Shapes.{shape};
-ghost use Rattle.lines.specs.Codes.{popped, pushed, on_stack, one_on_stack};
+ghost use Rattle.lines.specs.Codes.{on_stack, one_on_stack};
 ghost use Rattle.lines.specs.Lines.{stack_direction, stack_name};
 
 use crate::operands::is_nothing;
@@ -35,20 +34,6 @@ pub fn stack_register(load: bool, operands: &[Operand; 4]) -> Option<Reg>
                 && is_nothing(fourth) => Some(target),
         _ => None,
     }
-}
-
-// The register that a load pops, if it is a pop.
-pub fn pop_one(first: Operand, second: Operand, third: Operand, fourth: Operand) -> Option<Reg>
-    ensures register { result ≡ popped (shape first) (shape second) (shape third) (shape fourth) }
-{
-    stack_register(true, &[first, second, third, fourth])
-}
-
-// The register that a store pushes, if it is a push.
-pub fn push_one(first: Operand, second: Operand, third: Operand, fourth: Operand) -> Option<Reg>
-    ensures register { result ≡ pushed (shape first) (shape second) (shape third) (shape fourth) }
-{
-    stack_register(false, &[first, second, third, fourth])
 }
 
 // Whether a block transfer goes the way of a pop or a push.

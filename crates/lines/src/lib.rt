@@ -10,7 +10,7 @@ mod operands;
 mod suffix;
 
 pub use admission::admit;
-pub use alias::{pop_one, push_one, stack_register, stack_word, stacks};
+pub use alias::{stack_register, stack_word, stacks};
 pub use form::{Block, Form, ItBlock, Reached};
 pub use letters::letter_count;
 pub use operands::is_nothing;

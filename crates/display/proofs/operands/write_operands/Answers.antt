@@ -1,4 +1,4 @@
-use Rattle.std.proofs.Common.{map, length, take, drop, ◌-◌, codes, ap, arith, length-take}
+use Rattle.std.proofs.Common.{arith, map, length, take, drop, ◌-◌, codes, ap}
 use Rattle.std.proofs.lemmas.List.Elements.{All-take, All-drop}
 use Rattle.sink.specs.Items.{text_items}
 use Rattle.sink.proofs.Chain.{both, stop}
@@ -23,9 +23,7 @@ returns-in_err-write_operand g c =
     (stop laws (operand_items o) (followed (map operand_items (take (length os - 1) (drop 1 os)))) r.result c.in_err-write_operand.field-0.0 (printed_at o (c.args.reached.clean 0 (One R0) c.in-len1-up.len_at_least) c.in_err-write_operand.ensures.printed_or_refused) r.ensures.1))
 
 pub invariant_of-write_followed : goal.invariant_of-write_followed
-invariant_of-write_followed g c =
-    let os = c.args.reached.operands.now in
-    record { few = omega (arith, length-take (length os - 1) (drop 1 os), c.args.reached.few); clean = All-take HasText _ _ (All-drop HasText 1 _ c.args.reached.clean) }
+invariant_of-write_followed g c = record { few = omega (arith, c.args.reached.few); clean = All-take HasText _ _ (All-drop HasText 1 _ c.args.reached.clean) }
 
 pub returns : goal.returns
 returns g c =
