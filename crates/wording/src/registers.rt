@@ -6,25 +6,6 @@ use crate::bytes::Characters;
 use armv7::Reg;
 use std::fmt;
 
-const ALL: [Reg; 16] = [
-    Reg::R0,
-    Reg::R1,
-    Reg::R2,
-    Reg::R3,
-    Reg::R4,
-    Reg::R5,
-    Reg::R6,
-    Reg::R7,
-    Reg::R8,
-    Reg::R9,
-    Reg::R10,
-    Reg::R11,
-    Reg::R12,
-    Reg::R13,
-    Reg::R14,
-    Reg::R15,
-];
-
 // Is the register's bit set?
 fn holds(mask: u16, reg: Reg) -> bool
     ensures { result ≡ has mask reg }
@@ -44,7 +25,7 @@ impl fmt::Display for Registers {
         if mask == 0 {
             return f.write_str(" nothing");
         }
-        for reg in ALL {
+        for reg in Reg::ALL {
             if holds(mask, reg) {
                 write!(f, " {}", Characters(reg.name()))?;
             }
