@@ -3,7 +3,7 @@ ghost use Rattle.std.specs.Prelude.{◌≡◌};
 ghost use Rattle.armv7.specs.Banks.{bank_name};
 
 // The mode whose copy of a register is meant.
-#[derive(Clone, Copy)]
+#[derive(Clone, Copy, PartialEq, Eq)]
 pub enum Bank {
     Usr,
     Fiq,

@@ -3,7 +3,7 @@ ghost use Rattle.std.specs.Prelude.{◌≡◌, ◌<◌, length, MatchOption};
 ghost use Rattle.armv7.specs.Conditions.{condition_number, condition_name};
 
 // A condition; AL is always.
-#[derive(Clone, Copy)]
+#[derive(Clone, Copy, PartialEq, Eq)]
 pub enum ConditionCode {
     EQ,
     NE,
@@ -28,6 +28,25 @@ const CONDITION_NAMES: [&[u8]; 15] = [
 ];
 
 impl ConditionCode {
+    // All of them, by the manual's number.
+    pub const ALL: [ConditionCode; 15] = [
+        ConditionCode::EQ,
+        ConditionCode::NE,
+        ConditionCode::HS,
+        ConditionCode::LO,
+        ConditionCode::MI,
+        ConditionCode::PL,
+        ConditionCode::VS,
+        ConditionCode::VC,
+        ConditionCode::HI,
+        ConditionCode::LS,
+        ConditionCode::GE,
+        ConditionCode::LT,
+        ConditionCode::GT,
+        ConditionCode::LE,
+        ConditionCode::AL,
+    ];
+
     // The two letters that it is printed under.
     pub fn name(&self) -> &'static [u8]
         ensures value { result.now ≡ condition_name self.now }
@@ -40,23 +59,6 @@ impl ConditionCode {
     pub fn build(value: u8) -> Option<ConditionCode>
         ensures value { MatchOption result (14 < value) (λ c. condition_number c ≡ value) }
     {
-        match value {
-            0 => Some(ConditionCode::EQ),
-            1 => Some(ConditionCode::NE),
-            2 => Some(ConditionCode::HS),
-            3 => Some(ConditionCode::LO),
-            4 => Some(ConditionCode::MI),
-            5 => Some(ConditionCode::PL),
-            6 => Some(ConditionCode::VS),
-            7 => Some(ConditionCode::VC),
-            8 => Some(ConditionCode::HI),
-            9 => Some(ConditionCode::LS),
-            10 => Some(ConditionCode::GE),
-            11 => Some(ConditionCode::LT),
-            12 => Some(ConditionCode::GT),
-            13 => Some(ConditionCode::LE),
-            14 => Some(ConditionCode::AL),
-            _ => None,
-        }
+        ConditionCode::ALL.get(value as usize).copied()
     }
 }

@@ -6,7 +6,7 @@ ghost use Rattle.armv7.specs.Registers.{creg_number};
 use crate::fault::Fault;
 
 // A control register: one case for each number from 0 to 15, so that no other exists.
-#[derive(Clone, Copy)]
+#[derive(Clone, Copy, PartialEq, Eq)]
 pub enum CReg {
     C0,
     C1,
@@ -27,29 +27,31 @@ pub enum CReg {
 }
 
 impl CReg {
+    // All sixteen, by number.
+    pub const ALL: [CReg; 16] = [
+        CReg::C0,
+        CReg::C1,
+        CReg::C2,
+        CReg::C3,
+        CReg::C4,
+        CReg::C5,
+        CReg::C6,
+        CReg::C7,
+        CReg::C8,
+        CReg::C9,
+        CReg::C10,
+        CReg::C11,
+        CReg::C12,
+        CReg::C13,
+        CReg::C14,
+        CReg::C15,
+    ];
+
     // The control register with this number, which is refused above 15.
     pub fn from_u8(bits: u8) -> Result<CReg, Fault>
         ensures answer { MatchResult result (λ reg. creg_number reg ≡ bits) (λ f. (15 < bits) × (refusal f ≡ refused_with 1 no_operand)) }
     {
-        match bits {
-            0 => Ok(CReg::C0),
-            1 => Ok(CReg::C1),
-            2 => Ok(CReg::C2),
-            3 => Ok(CReg::C3),
-            4 => Ok(CReg::C4),
-            5 => Ok(CReg::C5),
-            6 => Ok(CReg::C6),
-            7 => Ok(CReg::C7),
-            8 => Ok(CReg::C8),
-            9 => Ok(CReg::C9),
-            10 => Ok(CReg::C10),
-            11 => Ok(CReg::C11),
-            12 => Ok(CReg::C12),
-            13 => Ok(CReg::C13),
-            14 => Ok(CReg::C14),
-            15 => Ok(CReg::C15),
-            _ => Err(Fault::Register),
-        }
+        CReg::try_from(bits)
     }
 
     // From 0 to 15.
@@ -57,5 +59,15 @@ impl CReg {
         ensures value { result ≡ creg_number self.now }
     {
         *self as u8
+    }
+}
+
+impl TryFrom<u8> for CReg {
+    type Error = Fault;
+
+    ghost try_from_gives = { λ bits r. MatchResult r (λ reg. creg_number reg ≡ bits) (λ f. (15 < bits) × (refusal f ≡ refused_with 1 no_operand)) };
+
+    fn try_from(bits: u8) -> Result<CReg, Fault> {
+        CReg::ALL.get(bits as usize).copied().ok_or(Fault::Register)
     }
 }

@@ -3,7 +3,7 @@ ghost use Rattle.std.specs.Prelude.{◌≡◌};
 ghost use Rattle.armv7.specs.Faults.{place_index, refusal, fault_word};
 
 // The place of an operand in its instruction.
-#[derive(Clone, Copy)]
+#[derive(Clone, Copy, PartialEq, Eq)]
 pub enum Place {
     First,
     Second,
@@ -12,7 +12,7 @@ pub enum Place {
 }
 
 // Why something was refused.
-#[derive(Clone, Copy)]
+#[derive(Clone, Copy, PartialEq, Eq)]
 pub enum Fault {
     // A register was to be made from a number above 15.
     Register,

@@ -6,7 +6,7 @@ ghost use Rattle.armv7.specs.Registers.{reg_number, reg_name, reg_at};
 use crate::fault::Fault;
 
 // A register: one case for each number from 0 to 15, so that no other exists.
-#[derive(Clone, Copy)]
+#[derive(Clone, Copy, PartialEq, Eq)]
 pub enum Reg {
     R0,
     R1,
@@ -32,53 +32,38 @@ const REG_NAMES: [&[u8]; 16] = [
 ];
 
 impl Reg {
+    // All sixteen, by number.
+    pub const ALL: [Reg; 16] = [
+        Reg::R0,
+        Reg::R1,
+        Reg::R2,
+        Reg::R3,
+        Reg::R4,
+        Reg::R5,
+        Reg::R6,
+        Reg::R7,
+        Reg::R8,
+        Reg::R9,
+        Reg::R10,
+        Reg::R11,
+        Reg::R12,
+        Reg::R13,
+        Reg::R14,
+        Reg::R15,
+    ];
+
     // The register with this number, which is refused above 15.
     pub fn from_u8(bits: u8) -> Result<Reg, Fault>
         ensures answer { MatchResult result (λ reg. reg_number reg ≡ bits) (λ f. (15 < bits) × (refusal f ≡ refused_with 1 no_operand)) }
     {
-        match bits {
-            0 => Ok(Reg::R0),
-            1 => Ok(Reg::R1),
-            2 => Ok(Reg::R2),
-            3 => Ok(Reg::R3),
-            4 => Ok(Reg::R4),
-            5 => Ok(Reg::R5),
-            6 => Ok(Reg::R6),
-            7 => Ok(Reg::R7),
-            8 => Ok(Reg::R8),
-            9 => Ok(Reg::R9),
-            10 => Ok(Reg::R10),
-            11 => Ok(Reg::R11),
-            12 => Ok(Reg::R12),
-            13 => Ok(Reg::R13),
-            14 => Ok(Reg::R14),
-            15 => Ok(Reg::R15),
-            _ => Err(Fault::Register),
-        }
+        Reg::try_from(bits)
     }
 
     // The register that the low four bits number.
     pub(crate) fn from_low_bits(bits: u16) -> Reg
         ensures { result ≡ reg_at bits }
     {
-        match bits % 16 {
-            0 => Reg::R0,
-            1 => Reg::R1,
-            2 => Reg::R2,
-            3 => Reg::R3,
-            4 => Reg::R4,
-            5 => Reg::R5,
-            6 => Reg::R6,
-            7 => Reg::R7,
-            8 => Reg::R8,
-            9 => Reg::R9,
-            10 => Reg::R10,
-            11 => Reg::R11,
-            12 => Reg::R12,
-            13 => Reg::R13,
-            14 => Reg::R14,
-            _ => Reg::R15,
-        }
+        Reg::ALL[(bits % 16) as usize]
     }
 
     // From 0 to 15.
@@ -93,5 +78,15 @@ impl Reg {
         ensures value { result.now ≡ reg_name self.now }
     {
         REG_NAMES[*self as usize]
+    }
+}
+
+impl TryFrom<u8> for Reg {
+    type Error = Fault;
+
+    ghost try_from_gives = { λ bits r. MatchResult r (λ reg. reg_number reg ≡ bits) (λ f. (15 < bits) × (refusal f ≡ refused_with 1 no_operand)) };
+
+    fn try_from(bits: u8) -> Result<Reg, Fault> {
+        Reg::ALL.get(bits as usize).copied().ok_or(Fault::Register)
     }
 }

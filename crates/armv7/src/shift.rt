@@ -77,13 +77,7 @@ impl RegShift {
         ensures word { MatchResult result (λ s. shift_word s ≡ «data») (λ f. (IsShiftWord «data» → ⊥) × (refusal f ≡ refused_with 2 no_operand)) }
         ensures answer { MatchResult result (λ s. (s.«data» ≡ «data») × IsShiftWord «data») (λ f. (IsShiftWord «data» → ⊥) × (refusal f ≡ refused_with 2 no_operand)) }
     {
-        if data > 4095 {
-            return Err(Fault::ShiftWord);
-        }
-        if data / 16 % 2 == 1 && data / 128 % 2 == 1 {
-            return Err(Fault::ShiftWord);
-        }
-        Ok(RegShift { data })
+        RegShift::try_from(data)
     }
 
     // The number.
@@ -100,17 +94,36 @@ impl RegShift {
     }
 }
 
+impl TryFrom<u16> for RegShift {
+    type Error = Fault;
+
+    ghost try_from_gives = { λ n r. MatchResult r (λ s. (s.«data» ≡ n) × IsShiftWord n) (λ f. (IsShiftWord n → ⊥) × (refusal f ≡ refused_with 2 no_operand)) };
+
+    fn try_from(data: u16) -> Result<RegShift, Fault> {
+        if data > 4095 {
+            return Err(Fault::ShiftWord);
+        }
+        if data / 16 % 2 == 1 && data / 128 % 2 == 1 {
+            return Err(Fault::ShiftWord);
+        }
+        Ok(RegShift { data })
+    }
+}
+
 impl ShiftStyle {
+    // All four, by number.
+    const ALL: [ShiftStyle; 4] = [
+        ShiftStyle::LSL,
+        ShiftStyle::LSR,
+        ShiftStyle::ASR,
+        ShiftStyle::ROR,
+    ];
+
     // The kind that the low two bits number.
     fn from_low_bits(bits: u16) -> ShiftStyle
         ensures { result ≡ style_at bits }
     {
-        match bits % 4 {
-            0 => ShiftStyle::LSL,
-            1 => ShiftStyle::LSR,
-            2 => ShiftStyle::ASR,
-            _ => ShiftStyle::ROR,
-        }
+        ShiftStyle::ALL[(bits % 4) as usize]
     }
 
     // The three letters that it is printed under.

@@ -1,5 +1,5 @@
 -- Instructions are read as they are written. Assumes nothing.
-use Rattle.std.proofs.Common.{◌≡◌, ℕ, ◌<◌, Bool, List, [], ◌∷◌, ◌++◌, length, Some, Ok, codes, refl, ap, ◌∙◌, arith}
+use Rattle.std.proofs.Common.{◌≡◌, ℕ, ◌<◌, Bool, List, [], ◌∷◌, ◌++◌, length, Some, Ok, codes, refl, ap, ◌∙◌, subst, arith}
 use Rattle.armv7.specs.declared.condition.ConditionCode.{ConditionCode}
 use Rattle.armv7.specs.declared.condition.ConditionCode.TheVariants.{EQ, NE, HS, LO, MI, PL, VS, VC, HI, LS, GE, LT, GT, LE, AL}
 use Rattle.armv7.specs.declared.instruction.Instruction.{Instruction}
@@ -106,12 +106,14 @@ fields_faithful =
 body_written : (x : Fields) → codes "Instruction" ∷ body x ≡ written (from_fields x)
 body_written x = refl
 
-pub instruction_sound : (ts : Tokens) (i : Instruction) (rest : Tokens) → instruction ts ≡ Ok (i, rest) → codes "Instruction" ∷ ts ≡ written i ++ rest
+pub instruction_sound : (ts : Tokens) (i : Instruction) (rest : Tokens) → instruction ts ≡ Ok (i, rest) → CanBe i × (codes "Instruction" ∷ ts ≡ written i ++ rest)
 instruction_sound ts i rest e =
     let one = via_sound from_fields fields ts i rest e in
-    ap (λ l. codes "Instruction" ∷ l) (fields_faithful.sound ts one.0 rest one.1.0)
-    ∙ ap (λ l. l ++ rest) (body_written one.0)
-    ∙ ap (λ j. written j ++ rest) one.1.1
+    let part = fields_faithful.sound ts one.0 rest one.1.0 in
+    let can : CanBe (from_fields one.0) = record { opcode = part.0.0.1; operands = part.0.1.0.0; four = part.0.1.0.1 } in (
+      subst CanBe one.1.1 can,
+      ap (λ l. codes "Instruction" ∷ l) part.1 ∙ ap (λ l. l ++ rest) (body_written one.0) ∙ ap (λ j. written j ++ rest) one.1.1,
+    )
 
 abbrev fields_of : Instruction → Fields
 fields_of i = ((i.condition, i.opcode), (i.operands, ((i.s, i.wide), (i.thumb_w, i.thumb))))

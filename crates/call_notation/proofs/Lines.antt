@@ -1,25 +1,26 @@
 -- A line is read as it is written. Assumes nothing.
-use Rattle.std.proofs.Common.{◌≡◌, ℕ, ◌<◌, Bool, true, false, cond, ◌⊎◌, List, [], ◌∷◌, ◌++◌, length, Some, None, Ok, codes, Option, sym, refl, ap, ◌∙◌, subst, inl, inr, ⊎_elim, append-nil, arith}
+use Rattle.std.proofs.Common.{◌≡◌, ℕ, ◌<◌, Bool, true, false, cond, ◌⊎◌, List, [], ◌∷◌, ◌++◌, length, Some, None, Ok, Err, codes, IfOk, Option, Result, sym, refl, ap, ◌∙◌, subst, inl, inr, ⊎_elim, append-nil, arith}
 use Rattle.std.proofs.lemmas.Slice.Eq.{bytes_eq-Decides}
 use Rattle.std.specs.Str.{bytes_eq}
 use Rattle.armv7.specs.declared.instruction.Instruction.{Instruction}
 use Rattle.misreading.specs.declared.given.Given.TheVariants.{End}
 use Rattle.misreading.specs.declared.misread.Expected.TheVariants.{Call as a_call}
+use Rattle.misreading.specs.declared.misread.Misread.{Misread}
 use Rattle.notation.specs.Parsing.{Tokens, Table, then, taken, row, given, givens}
 use Rattle.notation.specs.Tokens.{blank, wordy, opens_wordy, put, tokens, first, others}
-use Rattle.notation.proofs.Faithful.{then_ok, taken_ok, some_is, ok_pair, given_first, via_sound}
+use Rattle.notation.proofs.Faithful.{then_ok, taken_ok, ok_is, some_is, ok_pair, given_first, via_sound}
 use Rattle.armv7.specs.declared.call.Call.{Call}
 use Rattle.armv7.specs.declared.call.Call.TheVariants.{Print, Gap}
 use Rattle.call_notation.specs.declared.call.Start.{Start}
 use Rattle.call_notation.specs.declared.call.Start.TheVariants.{Nothing, Gap as GapStart, Print as PrintStart}
-use Rattle.call_notation.specs.Calls.{starts, whole, call_with, call}
+use Rattle.call_notation.specs.Calls.{starts, whole, call_with, call, reading}
 use Rattle.call_notation.specs.Instructions.{instruction}
-use Rattle.call_notation.specs.Law.{PassedOver, Says, CanCall}
+use Rattle.call_notation.specs.Law.{PassedOver, Says, CanCall, Answers, Answered}
 use Rattle.call_notation.specs.Written.{written, CanBe}
 use Rattle.call_notation.proofs.Instructions.{instruction_sound, instruction_complete}
 
 -- no token is empty
-abbrev pub Full : Tokens → Type 0
+abbrev Full : Tokens → Type 0
 Full [] = Unit {0}
 Full (t ∷ ts) = (0 < length t) × Full ts
 
@@ -28,7 +29,7 @@ put_full b true [] h = (omega arith, tt)
 put_full b true (t ∷ ts) h = (omega arith, h.1)
 put_full b false ts h = (omega arith, h)
 
-pub tokens_full : (bs : List ℕ) → Full (tokens bs)
+tokens_full : (bs : List ℕ) → Full (tokens bs)
 tokens_full [] = tt
 tokens_full (b ∷ bs) = by (blank b) (wordy b) (tokens_full bs)
   where
@@ -81,26 +82,27 @@ gap_alone : (ts : Tokens) (u : Unit {0}) (rest : Tokens) → Full ts → first t
 gap_alone [] u rest h b e = let len = ap length b in absurd (omega arith)
 gap_alone (t ∷ ts) u rest h b e = ap (λ w. w ∷ ts) b ∙ ap (λ l. codes "gap" ∷ l) (ended ts u rest h.1 e)
 
-instruction_alone : (ts : Tokens) (i : Instruction) (rest : Tokens) → Full ts → first ts ≡ codes "Instruction" → whole (others ts) ≡ Ok (i, rest) → ts ≡ written i
+instruction_alone : (ts : Tokens) (i : Instruction) (rest : Tokens) → Full ts → first ts ≡ codes "Instruction" → whole (others ts) ≡ Ok (i, rest) → CanBe i × (ts ≡ written i)
 instruction_alone [] i rest h b e = let len = ap length b in absurd (omega arith)
 instruction_alone (t ∷ ts) i rest h b e =
     let one = then_ok (instruction ts) (λ x. then (givens (End ∷ []) x.1) (λ c. Ok (x.0, c.1))) (i, rest) e in
     let two = then_ok (givens (End ∷ []) one.0.1) (λ c. Ok (one.0.0, c.1)) (i, rest) one.1.1 in
     let last = ok_pair one.0.0 i two.0.1 rest two.1.1 in
-    let is : t ∷ ts ≡ written one.0.0 ++ one.0.1 = ap (λ w. w ∷ ts) b ∙ instruction_sound ts one.0.0 one.0.1 one.1.0 in
+    let part = instruction_sound ts one.0.0 one.0.1 one.1.0 in
+    let is : t ∷ ts ≡ written one.0.0 ++ one.0.1 = ap (λ w. w ∷ ts) b ∙ part.1 in
     let none = ended one.0.1 two.0.0 two.0.1 (full_end (written one.0.0) one.0.1 (subst Full is h)) two.1.0 in
-    is ∙ ap (λ l. written one.0.0 ++ l) none ∙ append-nil (written one.0.0) ∙ ap written last.0
+    (subst CanBe last.0 part.0, is ∙ ap (λ l. written one.0.0 ++ l) none ∙ append-nil (written one.0.0) ∙ ap written last.0)
 
-begun : (s : Start) (ts : Tokens) (c : Option Call) (rest : Tokens) → Full ts → Begins (first ts) s → call_with s (others ts) ≡ Ok (c, rest) → Says ts c
-begun Nothing ts c rest h b e = subst (Says ts) (ok_pair None c (others ts) rest e).0 (passed ts h b)
+begun : (s : Start) (ts : Tokens) (c : Option Call) (rest : Tokens) → Full ts → Begins (first ts) s → call_with s (others ts) ≡ Ok (c, rest) → CanCall c × Says ts c
+begun Nothing ts c rest h b e = subst (λ d. CanCall d × Says ts d) (ok_pair None c (others ts) rest e).0 (tt, passed ts h b)
 begun GapStart ts c rest h b e =
     let one = via_sound (λ _. Some Gap) (givens (End ∷ [])) (others ts) c rest e in
-    subst (Says ts) one.1.1 (gap_alone ts one.0 rest h b one.1.0)
+    subst (λ d. CanCall d × Says ts d) one.1.1 (tt, gap_alone ts one.0 rest h b one.1.0)
 begun PrintStart ts c rest h b e =
     let one = via_sound (λ i. Some (Print i)) whole (others ts) c rest e in
-    subst (Says ts) one.1.1 (instruction_alone ts one.0 rest h b one.1.0)
+    subst (λ d. CanCall d × Says ts d) one.1.1 (instruction_alone ts one.0 rest h b one.1.0)
 
-pub call_sound : (ts : Tokens) (c : Option Call) (rest : Tokens) → Full ts → call ts ≡ Ok (c, rest) → Says ts c
+call_sound : (ts : Tokens) (c : Option Call) (rest : Tokens) → Full ts → call ts ≡ Ok (c, rest) → CanCall c × Says ts c
 call_sound ts c rest h e =
     let one = then_ok (taken a_call (row starts (first ts)) ts) (λ s. call_with s.0 s.1) (c, rest) e in
     let is = taken_ok a_call (row starts (first ts)) ts one.0.0 one.0.1 one.1.0 in
@@ -122,7 +124,24 @@ unfolding starts
 gap_complete = refl
 
 -- a line that says a call is read
-pub call_complete : (ts : Tokens) (c : Option Call) → CanCall c → Says ts c → (rest : Tokens) × (call ts ≡ Ok (c, rest))
+call_complete : (ts : Tokens) (c : Option Call) → CanCall c → Says ts c → (rest : Tokens) × (call ts ≡ Ok (c, rest))
 call_complete ts None can h = (others ts, passed_complete ts h)
 call_complete ts (Some Gap) can h = ([], ap call h ∙ gap_complete)
 call_complete ts (Some (Print i)) can h = ([], ap call h ∙ print_complete i can)
+
+-- what an answer says of the line
+pub answered_sound : (line : List ℕ) (r : Result (Option Call) Misread) → Answered line r → IfOk r (λ c. CanCall c × Says (tokens line) c)
+answered_sound line (Ok c) e =
+    let one = then_ok (call (tokens line)) (λ x. Ok x.0) c e in
+    subst (λ d. CanCall d × Says (tokens line) d) (ok_is one.0.0 c one.1.1) (call_sound (tokens line) one.0.0 one.0.1 (tokens_full line) one.1.0)
+answered_sound line (Err m) told = tt
+
+pub answered_complete : (line : List ℕ) (r : Result (Option Call) Misread) → Answered line r → (c : Option Call) → CanCall c → Says (tokens line) c → Answers r c
+answered_complete line (Ok d) e c can says =
+    let whole = call_complete (tokens line) c can says in
+    ok_is d c (sym e ∙ ap (λ o. then o (λ x. Ok x.0)) whole.1)
+answered_complete line (Err m) told c can says =
+    let whole = call_complete (tokens line) c can says in
+    let read : reading (tokens line) ≡ Ok c = ap (λ o. then o (λ x. Ok x.0)) whole.1 in
+    let stopped : reading (tokens line) ≡ Err told.0 = told.1.0 in
+    cc

@@ -1,9 +1,9 @@
 -- What reading a line promises. Assumes nothing.
-use Rattle.std.specs.Prelude.{◌≡◌, ℕ, ◌-◌, List, [], ◌∷◌, drop, Some, None, Ok, Err, codes, Option, Result}
+use Rattle.std.specs.Prelude.{◌≡◌, ℕ, List, [], ◌∷◌, Some, None, Ok, Err, codes, Option, Result}
 use Rattle.misreading.specs.declared.misread.Misread.{Misread}
 use Rattle.notation.specs.Parsing.{Stop}
-use Rattle.notation.specs.Places.{Stands}
-use Rattle.notation.specs.Tokens.{tokens, first}
+use Rattle.notation.specs.Reads.{Tells}
+use Rattle.notation.specs.Tokens.{tokens}
 use Rattle.armv7.specs.declared.call.Call.{Call}
 use Rattle.armv7.specs.declared.call.Call.TheVariants.{Print, Gap}
 use Rattle.call_notation.specs.Calls.{reading}
@@ -30,15 +30,6 @@ CanCall (Some (Print i)) = CanBe i
 abbrev pub Answers : {E : Type 0} → Result (Option Call) E → Option Call → Type 0
 Answers (Ok c) d = c ≡ d
 Answers (Err e) d = ⊥
-
--- a misreading tells where reading stops: the column at which the tokens that are left begin, the first of them, what was
--- expected of it, and the refusal of a number
-pub record Tells (line : List ℕ) (m : Misread) (s : Stop) : Type 0 where
-  pub place : Stands line m.column m.found.now
-  pub left : tokens (drop (m.column - 1) line) ≡ s.left
-  pub found : m.found.now ≡ first s.left
-  pub expected : m.expected ≡ s.expected
-  pub refusal : m.refusal ≡ s.refusal
 
 -- the answer is what the line is read as
 abbrev pub Answered : List ℕ → Result (Option Call) Misread → Type 0

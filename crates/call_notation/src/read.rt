@@ -11,20 +11,14 @@ use notation::Cursor;
 // The call that the line asks for, none if it is blank or a comment, or what cannot be read in it.
 pub fn read_line(line: &[u8]) -> Result<Option<Call>, Misread<'_>>
     ensures sound { IfOk result (Says (tokens line.now)) }
+    ensures lawful { IfOk result CanCall }
     ensures complete { (c : Option Call) → CanCall c → Says (tokens line.now) c → Answers result c }
     ensures answer { Answered line.now result }
 {
     let mut cursor = Cursor { line, at: 0 };
+    // Kept: the closure of a `map_err` would borrow the cursor, and need a clause of its own.
     match read_call(&mut cursor) {
         Ok(call) => Ok(call),
-        Err(slip) => {
-            let token = cursor.token();
-            Err(Misread {
-                column: token.column,
-                expected: slip.expected,
-                found: token.text,
-                refusal: slip.refusal,
-            })
-        }
+        Err(slip) => Err(cursor.misread(slip)),
     }
 }

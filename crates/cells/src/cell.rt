@@ -3,14 +3,14 @@ ghost use Rattle.std.specs.Prelude.{◌≡◌};
 ghost use Rattle.cells.specs.Inks.{ink_number};
 
 // What a byte is shown in: that of a span's kind, or none.
-#[derive(Clone, Copy)]
+#[derive(Clone, Copy, PartialEq, Eq)]
 pub enum Ink {
     Plain,
     Opcode,
     Register,
 }
 
-#[derive(Clone, Copy)]
+#[derive(Clone, Copy, PartialEq, Eq)]
 pub struct Cell {
     pub byte: u8,
     pub ink: Ink,
@@ -21,10 +21,6 @@ impl Ink {
     pub fn number(&self) -> u8
         ensures value { result ≡ ink_number self.now }
     {
-        match *self {
-            Ink::Plain => 0,
-            Ink::Opcode => 1,
-            Ink::Register => 2,
-        }
+        *self as u8
     }
 }

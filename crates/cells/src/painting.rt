@@ -1,15 +1,15 @@
 // A sink that holds text in lent cells, each byte with the ink of the spans around it, and no marks.
-ghost use Rattle.std.specs.Prelude.{◌≡◌, ◌-◌, ◌^◌, ◌<◌, ◌≤◌, min, ◌++◌, length, take};
+ghost use Rattle.std.specs.Prelude.{◌≡◌, ◌-◌, ◌≤◌, ◌++◌, length, take};
 ghost use Rattle.sink.specs.declared.sink.Edge.TheVariants.{Start, End};
 ghost use Rattle.sink.specs.declared.sink.Span.TheVariants.{Opcode, Register};
-ghost use Rattle.sink.specs.Lent.{spliced};
+ghost use Rattle.sink.specs.Lent.{Filled};
 ghost use Rattle.sink.specs.Meaning.{with_room, room as room_of, appended, marked};
 ghost use Rattle.sink.specs.Outcome.{outcome, full_below};
 ghost use Rattle.cells.specs.Inks.{ink_number, next_ink, painted};
-ghost use Rattle.cells.specs.CellSinks.{cells_of, cell_meaning, CellKept, cell_laws};
 
 use crate::cell::{Cell, Ink};
 use armv7::Fault;
+use sink::lent::push;
 use sink::{DisplaySink, Edge, RoomSink, Span};
 
 // The first `len` of the lent cells are the text, and the next one gets the ink.
@@ -18,36 +18,28 @@ pub struct CellSink<'a> {
     cells: &'a mut [Cell],
     len: usize,
     ink: Ink,
+    ghost within: { len ≤ length cells.now },
 }
 
-// Puts behind the first `used` cells as much of the piece as fits, in one ink, and answers how many cells that is.
-fn paint(cells: &mut [Cell], used: usize, ink: Ink, piece: &[u8]) -> usize
-    requires { used ≤ length cells.old }
-    ensures bits { length cells.old < 2 ^ 64 }
-    ensures value { result ≡ min (length piece.now) (length cells.old - used) }
-    ensures after { cells.new ≡ spliced used cells.old (painted ink (take result piece.now)) }
+// Puts as much of the piece as there is room for behind the first `used` cells, in one ink, counts it to them, and refuses a piece
+// that is longer.
+fn paint(cells: &mut [Cell], used: &mut usize, ink: Ink, piece: &[u8]) -> Result<(), Fault>
+    requires { used.old ≤ length cells.old }
+    ensures within { used.new ≤ length cells.new }
+    ensures size { length cells.new ≡ length cells.old }
+    ensures text { take used.new cells.new ≡ take used.old cells.old ++ painted ink (take (length cells.old - used.old) piece.now) }
+    ensures rest { Filled cells.old used.old cells.new used.new }
+    ensures answer { outcome result ≡ full_below (length cells.old - used.old) (length piece.now) }
 {
-    let count = piece.len().min(cells.len() - used);
-    for i in 0..count {
-        cells[used + i] = Cell {
-            byte: piece[i],
-            ink,
-        };
-    }
-    count
-}
-
-// Whether all of the piece is among the first `count` bytes of it.
-fn told(count: usize, piece: &[u8]) -> Result<(), Fault>
-    ensures { outcome result ≡ full_below count (length piece.now) }
-{
-    if count < piece.len() {
-        return Err(Fault::SinkFull);
+    for byte in piece {
+        push(cells, used, Cell { byte: *byte, ink })?;
     }
     Ok(())
 }
 
 impl<'a> CellSink<'a> {
+    ghost use Rattle.cells.specs.CellSinks.{cells_of, cell_meaning};
+
     // A sink with no text yet, as much room as there are cells, and plain ink.
     pub fn new(cells: &'a mut [Cell]) -> CellSink<'a>
         ensures empty { cell_meaning result ≡ with_room (length cells.old) 0 }
@@ -67,8 +59,7 @@ impl<'a> CellSink<'a> {
         ensures text { take result self.entry.cells.now ≡ cells_of self.entry }
         ensures value { result ≡ length (cell_meaning self.entry).text }
     {
-        let CellSink { cells, len, ink } = self;
-        len.min(cells.len())
+        self.len
     }
 
     // The ink after an edge of a span: a start sets its kind's, and an end sets plain if the ink is its kind's.
@@ -87,6 +78,8 @@ impl<'a> CellSink<'a> {
 }
 
 impl DisplaySink for CellSink<'_> {
+    ghost use Rattle.cells.specs.CellSinks.{cells_of, cell_meaning, CellKept, cell_laws};
+
     ghost meaning = { cell_meaning };
 
     ghost kept = { CellKept };
@@ -100,11 +93,7 @@ impl DisplaySink for CellSink<'_> {
         ensures inks { cells_of self.new ≡ cells_of self.old ++ painted self.old.ink (take (room_of (cell_meaning self.old)) piece.now) }
         ensures ink { self.new.ink ≡ self.old.ink }
     {
-        let used = self.len.min(self.cells.len());
-        let ink = self.ink;
-        let count = paint(self.cells, used, ink, piece);
-        self.len = used + count;
-        told(count, piece)
+        paint(self.cells, &mut self.len, self.ink, piece)
     }
 
     fn span_start_opcode(&mut self)
@@ -146,6 +135,6 @@ impl DisplaySink for CellSink<'_> {
 
 impl RoomSink for CellSink<'_> {
     fn room(&self) -> usize {
-        self.cells.len() - self.len.min(self.cells.len())
+        self.cells.len() - self.len
     }
 }

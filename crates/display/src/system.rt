@@ -11,7 +11,7 @@ ghost use Rattle.lines.specs.Lines.{behind_word, cps_letters, flag_row, setend_t
 use crate::word::write_flagged;
 use armv7::{ConditionCode, Fault};
 use sink::DisplaySink;
-use text::{write_prefixed_u16, write_text};
+use text::{write_prefixed, write_text};
 
 // The condition of an IT block.
 pub(crate) fn write_it_condition<T: DisplaySink>(
@@ -64,7 +64,7 @@ fn write_cps_mode<T: DisplaySink>(flags: u16, mode: u16, out: &mut T) -> Result<
     ensures { Printed T.meaning T.kept (text_items ((if nat_eq flags 0 then (codes " #") else (codes ", #")) ++ prefixed 4 mode)) out.old (outcome result) out.new }
 {
     write_text(out, before_mode(flags))?;
-    write_prefixed_u16(out, mode)
+    write_prefixed(out, u32::from(mode))
 }
 
 // The interrupts that a CPS switches, and the mode that it changes to.

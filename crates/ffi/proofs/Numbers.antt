@@ -28,20 +28,19 @@ number_more i row ms d h k =
     ∙ over_more row ys (mark_code (get_or ms i d)) 0 (omega (arith, size))
     ∙ ap (λ l. over l row) (sym (map_more mark_code ms i d h))
 
--- the first marks of so many, as far as there are places
-pub numbers_first : (count n : ℕ) (ms : List Mark) → map mark_code (take (min (min count (length ms)) n) ms) ≡ numbers_in n (take count ms)
-numbers_first zero n ms = let none : min (min zero (length ms)) n ≡ zero = omega arith in ap (λ k. map mark_code (take k ms)) none
-numbers_first (suc count) n [] = let none : min (min (suc count) 0) n ≡ zero = omega arith in ap (λ k. map mark_code (take k [])) none
-numbers_first (suc count) zero (m ∷ ms) = let none : min (min (suc count) (length (m ∷ ms))) zero ≡ zero = omega arith in ap (λ k. map mark_code (take k (m ∷ ms))) none
-numbers_first (suc count) (suc n) (m ∷ ms) = ap (λ k. map mark_code (take k (m ∷ ms))) more ∙ ap (λ r. mark_code m ∷ r) (numbers_first count n ms)
+-- as many marks as there are places for
+pub numbers_first : (n : ℕ) (ms : List Mark) → map mark_code (take (min (length ms) n) ms) ≡ numbers_in n ms
+numbers_first n [] = let none : min 0 n ≡ zero = omega arith in ap (λ k. map mark_code (take k [])) none
+numbers_first zero (m ∷ ms) = let none : min (length (m ∷ ms)) zero ≡ zero = omega arith in ap (λ k. map mark_code (take k (m ∷ ms))) none
+numbers_first (suc n) (m ∷ ms) = ap (λ k. map mark_code (take k (m ∷ ms))) more ∙ ap (λ r. mark_code m ∷ r) (numbers_first n ms)
   where
-    more : min (min (suc count) (length (m ∷ ms))) (suc n) ≡ suc (min (min count (length ms)) n)
+    more : min (length (m ∷ ms)) (suc n) ≡ suc (min (length ms) n)
     more = omega arith
 
-pub numbers_count : (count n : ℕ) (ms : List Mark) → min (min count (length ms)) n ≡ length (numbers_in n (take count ms))
-numbers_count count n ms = sym (ap length (sym (numbers_first count n ms)) ∙ length-map (take (min (min count (length ms)) n) ms) mark_code ∙ length-take (min (min count (length ms)) n) ms ∙ whole)
+pub numbers_count : (n : ℕ) (ms : List Mark) → min (length ms) n ≡ length (numbers_in n ms)
+numbers_count n ms = sym (ap length (sym (numbers_first n ms)) ∙ length-map (take (min (length ms) n) ms) mark_code ∙ length-take (min (length ms) n) ms ∙ whole)
   where
-    whole : min (min (min count (length ms)) n) (length ms) ≡ min (min count (length ms)) n
+    whole : min (min (length ms) n) (length ms) ≡ min (length ms) n
     whole = omega arith
 
 -- what fits of a row of items has no more marks

@@ -12,6 +12,7 @@ use Rattle.sink.specs.Items.{Item, bytes, fitting}
 use Rattle.sink.specs.Outcome.{full_below}
 use Rattle.lines.specs.Admission.{refused}
 use Rattle.lines.specs.Lines.{line}
+use Rattle.ffi.specs.declared.Answer.{Answer}
 
 -- reading stops at a column, from 1: the tokens that are left begin there
 pub record StopsAt (text : List ℕ) (column : ℕ) (s : Stop) : Type 0 where
@@ -62,3 +63,15 @@ told n (Some i) = numbered (refusal_unless (refused i) n (line i))
 -- memory that begins with these elements, and is as before past them
 abbrev pub over : {A : Type 0} → List A → List A → List A
 over front before = front ++ drop (length front) before
+
+-- an answer has the refusal's number and its place
+abbrev pub TellsRefusal : Refusal → Answer → Type 0
+TellsRefusal why a = (a.number ≡ why.number) × (a.place ≡ why.place)
+
+-- an answer to an instruction that was printed to so many bytes: how long the text is, and the refusal
+abbrev pub TellsText : ℕ → Option Instruction → Answer → Type 0
+TellsText n i a = (a.length ≡ length (bytes (shown n i))) × TellsRefusal (told n i) a
+
+-- memory that was lent for the text of an instruction begins with it, and is as before past it
+abbrev pub HoldsText : Option Instruction → List ℕ → List ℕ → Type 0
+HoldsText i before after = after ≡ over (bytes (shown (length before) i)) before

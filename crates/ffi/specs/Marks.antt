@@ -1,10 +1,13 @@
 -- Marks as numbers. Assumes nothing.
-use Rattle.std.specs.Prelude.{ℕ, zero, suc, ◌+◌, ◌-◌, ◌*◌, ◌^◌, min, List, [], ◌∷◌}
+use Rattle.std.specs.Prelude.{ℕ, zero, suc, ◌+◌, ◌-◌, ◌*◌, ◌^◌, min, List, [], ◌∷◌, Option}
+use Rattle.armv7.specs.declared.instruction.Instruction.{Instruction}
+use Rattle.sink.specs.Items.{marks_from}
 use Rattle.sink.specs.declared.sink.Edge.{Edge}
 use Rattle.sink.specs.declared.sink.Edge.TheVariants.{Start, End}
 use Rattle.sink.specs.declared.sink.Mark.{Mark}
 use Rattle.sink.specs.declared.sink.Span.{Span}
 use Rattle.sink.specs.declared.sink.Span.TheVariants.{Opcode, Register}
+use Rattle.ffi.specs.Lines.{shown}
 
 abbrev pub code_of_edge : Edge → ℕ
 code_of_edge Start = 0
@@ -23,3 +26,7 @@ abbrev pub numbers_in : ℕ → List Mark → List ℕ
 numbers_in n [] = []
 numbers_in zero (m ∷ ms) = []
 numbers_in (suc n) (m ∷ ms) = mark_code m ∷ numbers_in n ms
+
+-- the numbers of an instruction's marks, in so many places, where its text has so many bytes
+abbrev pub numbers_shown : ℕ → ℕ → Option Instruction → List ℕ
+numbers_shown places n i = numbers_in places (marks_from 0 (shown n i))

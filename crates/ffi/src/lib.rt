@@ -1,11 +1,10 @@
 // The printer for programs in C: functions on numbers and on lent bytes.
 #![tactic(auto)]
 
-ghost use Rattle.std.specs.Prelude.{◌≡◌, length, take, Some};
-ghost use Rattle.sink.specs.Items.{bytes, marks_from};
+ghost use Rattle.std.specs.Prelude.{◌≡◌, length, Some};
 ghost use Rattle.sink.specs.Outcome.{outcome};
-ghost use Rattle.ffi.specs.Lines.{ColumnOf, asked, shown, numbered, told, over};
-ghost use Rattle.ffi.specs.Marks.{code_of_edge, code_of_span, mark_code, numbers_in};
+ghost use Rattle.ffi.specs.Lines.{ColumnOf, asked, numbered, over, TellsRefusal, TellsText, HoldsText};
+ghost use Rattle.ffi.specs.Marks.{code_of_edge, code_of_span, mark_code, numbers_in, numbers_shown};
 
 use armv7::{Call, Fault, Instruction};
 use call_notation::read_line;
@@ -39,7 +38,7 @@ const NOTHING: Answer = Answer {
 // The answer to an instruction that was printed.
 fn answered(answer: Result<(), Fault>, length: usize, marks: usize) -> Answer
     ensures size { result.length ≡ length }
-    ensures refusal { (result.number ≡ (numbered (outcome answer)).number) × (result.place ≡ (numbered (outcome answer)).place) }
+    ensures refusal { TellsRefusal (numbered (outcome answer)) result }
     ensures others { (result.marks ≡ marks) × (result.column ≡ 0) }
 {
     let (number, place) = match answer {
@@ -57,10 +56,9 @@ fn answered(answer: Result<(), Fault>, length: usize, marks: usize) -> Answer
 
 // Prints the instruction to the lent bytes.
 fn print_text(instruction: &Instruction, out: &mut [u8]) -> Answer
-    ensures size { result.length ≡ length (bytes (shown (length out.old) (Some instruction.now))) }
-    ensures refusal { (result.number ≡ (told (length out.old) (Some instruction.now)).number) × (result.place ≡ (told (length out.old) (Some instruction.now)).place) }
+    ensures text { TellsText (length out.old) (Some instruction.now) result }
     ensures others { (result.marks ≡ 0) × (result.column ≡ 0) }
-    ensures memory { out.new ≡ over (bytes (shown (length out.old) (Some instruction.now))) out.old }
+    ensures memory { HoldsText (Some instruction.now) out.old out.new }
 {
     let mut sink = TextSink::new(out);
     let answer = visit_inst(instruction, &mut sink);
@@ -81,10 +79,9 @@ pub extern "C" fn dithwellor_read(line: &[u8]) -> usize
 #[unsafe(no_mangle)]
 pub extern "C" fn dithwellor_print(line: &[u8], out: &mut [u8], answer: &mut Answer)
     ensures column { ColumnOf line.now answer.new.column }
-    ensures size { answer.new.length ≡ length (bytes (shown (length out.old) (asked line.now))) }
-    ensures refusal { (answer.new.number ≡ (told (length out.old) (asked line.now)).number) × (answer.new.place ≡ (told (length out.old) (asked line.now)).place) }
+    ensures text { TellsText (length out.old) (asked line.now) answer.new }
     ensures no_marks { answer.new.marks ≡ 0 }
-    ensures memory { out.new ≡ over (bytes (shown (length out.old) (asked line.now))) out.old }
+    ensures memory { HoldsText (asked line.now) out.old out.new }
 {
     *answer = NOTHING;
     match read_line(line) {
@@ -94,12 +91,16 @@ pub extern "C" fn dithwellor_print(line: &[u8], out: &mut [u8], answer: &mut Ans
     }
 }
 
+// A line has at most 130 marks.
+const MARKS: usize = 130;
+
 const NO_MARK: Mark = Mark {
     edge: Edge::Start,
     span: Span::Opcode,
     at: 0,
 };
 
+// Kept: numbers for the kinds, since a program in C takes a mark as one number.
 fn edge_code(edge: Edge) -> u64
     ensures { result ≡ code_of_edge edge }
 {
@@ -127,33 +128,31 @@ fn mark_number(mark: Mark) -> u64
     edge.saturating_add(span_code(mark.span))
 }
 
-// Fills the row with the first `count` of the marks, as many as there are places, and answers how many that is.
-fn number_marks(marks: &[Mark], count: usize, row: &mut [u64]) -> usize
-    ensures value { result ≡ length (numbers_in (length row.old) (take count marks.now)) }
-    ensures row { row.new ≡ over (numbers_in (length row.old) (take count marks.now)) row.old }
+// Fills the row with the numbers of the marks, as many as there are places, and answers how many that is.
+fn number_marks(marks: &[Mark], row: &mut [u64]) -> usize
+    ensures value { result ≡ length (numbers_in (length row.old) marks.now) }
+    ensures row { row.new ≡ over (numbers_in (length row.old) marks.now) row.old }
 {
-    let held = count.min(marks.len());
-    let most = held.min(row.len());
-    for i in 0..most {
-        row[i] = mark_number(marks[i]);
+    let most = marks.len().min(row.len());
+    for (place, mark) in marks[..most].iter().enumerate() {
+        row[place] = mark_number(*mark);
     }
     most
 }
 
 // Prints the instruction to the lent bytes, and its marks to the lent row.
 fn print_marks(instruction: &Instruction, out: &mut [u8], row: &mut [u64]) -> Answer
-    ensures size { result.length ≡ length (bytes (shown (length out.old) (Some instruction.now))) }
-    ensures refusal { (result.number ≡ (told (length out.old) (Some instruction.now)).number) × (result.place ≡ (told (length out.old) (Some instruction.now)).place) }
+    ensures text { TellsText (length out.old) (Some instruction.now) result }
     ensures column { result.column ≡ 0 }
-    ensures marks { result.marks ≡ length (numbers_in (length row.old) (marks_from 0 (shown (length out.old) (Some instruction.now)))) }
-    ensures memory { out.new ≡ over (bytes (shown (length out.old) (Some instruction.now))) out.old }
-    ensures row { row.new ≡ over (numbers_in (length row.old) (marks_from 0 (shown (length out.old) (Some instruction.now)))) row.old }
+    ensures marks { result.marks ≡ length (numbers_shown (length row.old) (length out.old) (Some instruction.now)) }
+    ensures memory { HoldsText (Some instruction.now) out.old out.new }
+    ensures row { row.new ≡ over (numbers_shown (length row.old) (length out.old) (Some instruction.now)) row.old }
 {
-    let mut marks = [NO_MARK; 130];
+    let mut marks = [NO_MARK; MARKS];
     let mut sink = MarkSink::new(out, &mut marks);
     let answer = visit_inst(instruction, &mut sink);
     let (length, count) = sink.end();
-    let written = number_marks(&marks, count, row);
+    let written = number_marks(&marks[..count.min(MARKS)], row);
     answered(answer, length, written)
 }
 
@@ -165,11 +164,10 @@ pub extern "C" fn dithwellor_print_marked(
     answer: &mut Answer,
 )
     ensures column { ColumnOf line.now answer.new.column }
-    ensures size { answer.new.length ≡ length (bytes (shown (length out.old) (asked line.now))) }
-    ensures refusal { (answer.new.number ≡ (told (length out.old) (asked line.now)).number) × (answer.new.place ≡ (told (length out.old) (asked line.now)).place) }
-    ensures marks { answer.new.marks ≡ length (numbers_in (length row.old) (marks_from 0 (shown (length out.old) (asked line.now)))) }
-    ensures memory { out.new ≡ over (bytes (shown (length out.old) (asked line.now))) out.old }
-    ensures row { row.new ≡ over (numbers_in (length row.old) (marks_from 0 (shown (length out.old) (asked line.now)))) row.old }
+    ensures text { TellsText (length out.old) (asked line.now) answer.new }
+    ensures marks { answer.new.marks ≡ length (numbers_shown (length row.old) (length out.old) (asked line.now)) }
+    ensures memory { HoldsText (asked line.now) out.old out.new }
+    ensures row { row.new ≡ over (numbers_shown (length row.old) (length out.old) (asked line.now)) row.old }
 {
     *answer = NOTHING;
     match read_line(line) {

@@ -16,25 +16,6 @@ use crate::operands::{admit_operand, admit_reached, is_nothing};
 use armv7::{ConditionCode, Fault, Instruction, Operand, Place};
 use kind::{Codes, Kind, Transfer, kind_by};
 
-// By the manual's numbers.
-const CONDITIONS: [ConditionCode; 15] = [
-    ConditionCode::EQ,
-    ConditionCode::NE,
-    ConditionCode::HS,
-    ConditionCode::LO,
-    ConditionCode::MI,
-    ConditionCode::PL,
-    ConditionCode::VS,
-    ConditionCode::VC,
-    ConditionCode::HI,
-    ConditionCode::LS,
-    ConditionCode::GE,
-    ConditionCode::LT,
-    ConditionCode::GT,
-    ConditionCode::LE,
-    ConditionCode::AL,
-];
-
 fn admit_plain(instruction: &Instruction) -> Result<Form<'_>, Fault>
     ensures { AdmittedAs plain instruction.now result }
 {
@@ -100,7 +81,7 @@ fn admit_it(instruction: &Instruction) -> Result<Form<'_>, Fault>
     if mask > 15 {
         return Err(Fault::Field(Place::Second));
     }
-    let condition = CONDITIONS[condition as usize];
+    let condition = ConditionCode::ALL[condition as usize];
     Ok(Form::It(ItBlock { condition, mask }))
 }
 

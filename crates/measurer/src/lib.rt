@@ -5,3 +5,4 @@ pub mod measuring;
 mod size;
 
 pub use measuring::{Measurer, measure};
+pub use size::{decimal_size, flag_size};

@@ -7,7 +7,8 @@ ghost use Rattle.visitor.specs.Texts.{reg_items, decimal, prefixed, list_items, 
 
 use armv7::{Reg, RegShift, RegShiftStyle, ShiftStyle};
 
-pub(crate) fn flag_size(shown: bool) -> usize
+// A byte that is only shown under a flag.
+pub fn flag_size(shown: bool) -> usize
     ensures value { result ≡ (if shown then 1 else 0) }
     ensures bound { result ≤ 1 }
 {
@@ -21,7 +22,8 @@ pub(crate) fn reg_size(reg: Reg) -> usize
     reg.name().len()
 }
 
-pub(crate) fn decimal_size(number: u8) -> usize
+// The digits of a number below 100.
+pub fn decimal_size(number: u8) -> usize
     ensures value { result ≡ length (decimal number) }
     ensures bound { result ≤ 2 }
 {
@@ -68,25 +70,13 @@ fn amount_size(stype: ShiftStyle, amount: u8) -> usize
     ensures value { result ≡ length (amount_text stype amount) }
     ensures bound { result ≤ 8 }
 {
+    if amount > 0 {
+        return 6 + decimal_size(amount);
+    }
     match stype {
-        ShiftStyle::LSL => {
-            if amount == 0 {
-                return 0;
-            }
-            6 + decimal_size(amount)
-        }
-        ShiftStyle::LSR | ShiftStyle::ASR => {
-            if amount == 0 {
-                return 8;
-            }
-            6 + decimal_size(amount)
-        }
-        ShiftStyle::ROR => {
-            if amount == 0 {
-                return 5;
-            }
-            6 + decimal_size(amount)
-        }
+        ShiftStyle::LSL => 0,
+        ShiftStyle::LSR | ShiftStyle::ASR => 8,
+        ShiftStyle::ROR => 5,
     }
 }
 

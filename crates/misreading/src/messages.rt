@@ -1,6 +1,6 @@
 // The message on a line that cannot be read.
 ghost use Rattle.std.specs.Prelude.{◌≡◌, ◌++◌, IfOk, OnOk};
-ghost use Rattle.misreading.specs.Messages.{or_at_end, expected_text, refusal_text, shown_byte, shown, message_of};
+ghost use Rattle.misreading.specs.Messages.{or_at_end, expected_text, refusal_text, shown_byte, shown, message_with, message_of};
 
 use crate::misread::{Expected, Misread};
 use armv7::Fault;
@@ -9,8 +9,8 @@ use std::alloc::{AllocError, Global};
 const HEX: [u8; 16] = *b"0123456789abcdef";
 
 // A token, or that the line ends there.
-fn or_end(text: &[u8]) -> &[u8]
-    ensures { result.now ≡ or_at_end text.now }
+pub fn or_end(text: &[u8]) -> &[u8]
+    ensures text { result.now ≡ or_at_end text.now }
 {
     if text.is_empty() {
         b"the end of the line"
@@ -21,8 +21,8 @@ fn or_end(text: &[u8]) -> &[u8]
 
 impl Expected {
     // In words.
-    pub(crate) fn text(&self) -> &'static [u8]
-        ensures { result.now ≡ expected_text self.now }
+    pub fn text(&self) -> &'static [u8]
+        ensures text { result.now ≡ expected_text self.now }
     {
         match *self {
             Expected::Call => b"gap or Instruction",
@@ -44,28 +44,43 @@ impl Expected {
     }
 }
 
-// What is said of the line with this number: where it cannot be read, what was expected there and what was found.
+// What is said of the line with this number: where it cannot be read, what was expected there and what was found, of which
+// a byte that is not printable is told by its number.
 pub fn message(heap: Global, line: u64, misread: &Misread<'_>) -> Result<Vec<u8>, AllocError>
     ensures text { IfOk result (λ v. v.items ≡ message_of line misread.now) }
+{
+    let found = printable(heap, or_end(misread.found))?;
+    message_showing(heap, line, misread, found.as_slice())
+}
+
+// The same with another text for what was found.
+pub fn message_showing(
+    heap: Global,
+    line: u64,
+    misread: &Misread<'_>,
+    found: &[u8],
+) -> Result<Vec<u8>, AllocError>
+    ensures text { IfOk result (λ v. v.items ≡ message_with line misread.now found.now) }
 {
     let column = misread.column;
     let place = format!(in heap; "line {line}, column {column}: ")?;
     let mut text = Vec::from_slice(heap, place.as_bytes())?;
     text.extend_from_slice(misread.expected.text())?;
     text.extend_from_slice(b" was expected, found ")?;
-    add_shown(&mut text, or_end(misread.found))?;
+    text.extend_from_slice(found)?;
     add_refusal(heap, &mut text, misread.refusal)?;
     Ok(text)
 }
 
 // A text of any bytes.
-fn add_shown(text: &mut Vec<u8>, found: &[u8]) -> Result<(), AllocError>
-    ensures { OnOk result (text.new.items ≡ text.old.items ++ shown found.now) }
+fn printable(heap: Global, text: &[u8]) -> Result<Vec<u8>, AllocError>
+    ensures { IfOk result (λ v. v.items ≡ shown text.now) }
 {
-    for b in found {
-        add_byte(text, *b)?;
+    let mut made = Vec::new(heap);
+    for b in text {
+        add_byte(&mut made, *b)?;
     }
-    Ok(())
+    Ok(made)
 }
 
 // A byte that is not printable is told by its number.
@@ -88,9 +103,8 @@ fn add_byte(text: &mut Vec<u8>, b: u8) -> Result<(), AllocError>
 fn add_refusal(heap: Global, text: &mut Vec<u8>, refusal: Option<Fault>) -> Result<(), AllocError>
     ensures { OnOk result (text.new.items ≡ text.old.items ++ refusal_text refusal) }
 {
-    let fault = match refusal {
-        None => return Ok(()),
-        Some(fault) => fault,
+    let Some(fault) = refusal else {
+        return Ok(());
     };
     let number = fault.number();
     let opening = format!(in heap; " (refusal {number}: ")?;

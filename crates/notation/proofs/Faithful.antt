@@ -1,5 +1,5 @@
 -- A parser that takes off just what is written. Assumes nothing.
-use Rattle.std.proofs.Common.{◌≡◌, ℕ, ◌<◌, Bool, true, false, cond, List, [], ◌∷◌, ◌++◌, map, length, Some, None, Ok, Err, Option, Result, sym, refl, ap, ◌∙◌, append_assoc, arith}
+use Rattle.std.proofs.Common.{◌≡◌, ℕ, ◌<◌, Bool, true, false, cond, List, [], ◌∷◌, ◌++◌, map, length, Some, None, Ok, Err, Option, Result, sym, refl, ap, ◌∙◌, append_assoc, subst, arith}
 use Rattle.std.proofs.lemmas.Slice.Eq.{bytes_eq-Decides}
 use Rattle.std.proofs.lemmas.Bool.{cond-true}
 use Rattle.std.specs.Str.{bytes_eq}
@@ -9,11 +9,12 @@ use Rattle.misreading.specs.declared.misread.Expected.{Expected}
 use Rattle.misreading.specs.declared.misread.Expected.TheVariants.{Given as Token}
 use Rattle.misreading.specs.Givens.{text_of}
 use Rattle.notation.specs.Parsing.{Tokens, Stop, Parser, then, taken, Table, row, chosen, given, givens, after, before, both, pair, bracketed, via}
+use Rattle.notation.specs.Notation.{Argument, Variant, argument, in_parentheses, variant, Held, AllHeld}
 use Rattle.notation.specs.Tokens.{first, others}
 
--- W writes a value, and the parser takes off no more and no less; the values that can be are all read
+-- W writes a value, and the parser takes off no more and no less; the values that are read are just those that can be
 pub record Faithful {X : Type 0} (Can : X → Type 0) (W : X → Tokens) (p : Parser X) : Type 0 where
-  pub sound : (ts : Tokens) (x : X) (rest : Tokens) → p ts ≡ Ok (x, rest) → ts ≡ W x ++ rest
+  pub sound : (ts : Tokens) (x : X) (rest : Tokens) → p ts ≡ Ok (x, rest) → Can x × (ts ≡ W x ++ rest)
   pub complete : (x : X) → Can x → (rest : Tokens) → p (W x ++ rest) ≡ Ok (x, rest)
 
 pub then_ok : {X Y : Type 0} (o : Result X Stop) (f : X → Result Y Stop) (y : Y) → then o f ≡ Ok y → (x : X) × ((o ≡ Ok x) × (f x ≡ Ok y))
@@ -82,7 +83,8 @@ pub after_faithful : {X : Type 0} {Can : X → Type 0} {W : X → Tokens} {p : P
 after_faithful {X} {Can} {W} {p} gs h f = record {
   sound = λ ts x rest e.
       let one = then_ok (givens gs ts) (λ o. p o.1) (x, rest) e in
-      givens_sound gs ts one.0.0 one.0.1 h one.1.0 ∙ ap (λ l. texts gs ++ l) (f.sound one.0.1 x rest one.1.1) ∙ sym (append_assoc (texts gs) (W x) rest);
+      let part = f.sound one.0.1 x rest one.1.1 in
+      (part.0, givens_sound gs ts one.0.0 one.0.1 h one.1.0 ∙ ap (λ l. texts gs ++ l) part.1 ∙ sym (append_assoc (texts gs) (W x) rest));
   complete = λ x can rest.
       ap (after gs p) (append_assoc (texts gs) (W x) rest) ∙ ap (λ o. then o (λ o. p o.1)) (givens_complete gs (W x ++ rest)) ∙ f.complete x can rest;
 }
@@ -94,11 +96,14 @@ before_faithful {X} {Can} {W} {p} gs k f = record {
       let one = then_ok (p ts) (λ a. then (givens gs a.1) (λ c. Ok (a.0, c.1))) (x, rest) e in
       let two = then_ok (givens gs one.0.1) (λ c. Ok (one.0.0, c.1)) (x, rest) one.1.1 in
       let last = ok_pair one.0.0 x two.0.1 rest two.1.1 in
-      f.sound ts one.0.0 one.0.1 one.1.0
-      ∙ ap (λ l. W one.0.0 ++ l) (givens_sound gs one.0.1 two.0.0 two.0.1 k two.1.0)
-      ∙ ap (λ y. W y ++ (texts gs ++ two.0.1)) last.0
-      ∙ ap (λ l. W x ++ (texts gs ++ l)) last.1
-      ∙ sym (append_assoc (W x) (texts gs) rest);
+      let part = f.sound ts one.0.0 one.0.1 one.1.0 in (
+        subst Can last.0 part.0,
+        part.1
+            ∙ ap (λ l. W one.0.0 ++ l) (givens_sound gs one.0.1 two.0.0 two.0.1 k two.1.0)
+            ∙ ap (λ y. W y ++ (texts gs ++ two.0.1)) last.0
+            ∙ ap (λ l. W x ++ (texts gs ++ l)) last.1
+            ∙ sym (append_assoc (W x) (texts gs) rest),
+      );
   complete = λ x can rest.
       ap (before p gs) (append_assoc (W x) (texts gs) rest)
       ∙ ap (λ o. then o (λ a. then (givens gs a.1) (λ c. Ok (a.0, c.1)))) (f.complete x can (texts gs ++ rest))
@@ -112,11 +117,15 @@ both_faithful {X} {Y} {CanX} {CanY} {V} {W} {p} {q} f g = record {
       let one = then_ok (p ts) (λ a. then (q a.1) (λ b. Ok ((a.0, b.0), b.1))) (x, rest) e in
       let two = then_ok (q one.0.1) (λ b. Ok ((one.0.0, b.0), b.1)) (x, rest) one.1.1 in
       let last = ok_pair (one.0.0, two.0.0) x two.0.1 rest two.1.1 in
-      f.sound ts one.0.0 one.0.1 one.1.0
-      ∙ ap (λ l. V one.0.0 ++ l) (g.sound one.0.1 two.0.0 two.0.1 two.1.0)
-      ∙ sym (append_assoc (V one.0.0) (W two.0.0) two.0.1)
-      ∙ ap (λ y. (V y.0 ++ W y.1) ++ two.0.1) last.0
-      ∙ ap (λ l. (V x.0 ++ W x.1) ++ l) last.1;
+      let left = f.sound ts one.0.0 one.0.1 one.1.0 in
+      let right = g.sound one.0.1 two.0.0 two.0.1 two.1.0 in (
+        subst (λ y. CanX y.0 × CanY y.1) last.0 (left.0, right.0),
+        left.1
+            ∙ ap (λ l. V one.0.0 ++ l) right.1
+            ∙ sym (append_assoc (V one.0.0) (W two.0.0) two.0.1)
+            ∙ ap (λ y. (V y.0 ++ W y.1) ++ two.0.1) last.0
+            ∙ ap (λ l. (V x.0 ++ W x.1) ++ l) last.1,
+      );
   complete = λ x can rest.
       ap (both p q) (append_assoc (V x.0) (W x.1) rest)
       ∙ ap (λ o. then o (λ a. then (q a.1) (λ b. Ok ((a.0, b.0), b.1)))) (f.complete x.0 can.0 (W x.1 ++ rest))
@@ -138,12 +147,32 @@ via_sound f p ts y rest e =
     let last = ok_pair (f one.0.0) y one.0.1 rest one.1.1 in
     (one.0.0, (one.1.0 ∙ ap (λ l. Ok (one.0.0, l)) last.1, last.0))
 
+-- the same, where what can be is told another way
+pub retold : {X : Type 0} {Can Held : X → Type 0} {W : X → Tokens} {p : Parser X} → ((x : X) → Can x → Held x) → ((x : X) → Held x → Can x) → Faithful Can W p → Faithful Held W p
+retold to from f = record {
+  sound = λ ts x rest e. let part = f.sound ts x rest e in (to x part.0, part.1);
+  complete = λ x held rest. f.complete x (from x held) rest;
+}
+
 -- the same, written another way
 pub rewritten : {X : Type 0} {Can : X → Type 0} {V : X → Tokens} {W : X → Tokens} {p : Parser X} → ((x : X) → V x ≡ W x) → Faithful Can V p → Faithful Can W p
 rewritten {X} {Can} {V} {W} {p} same f = record {
-  sound = λ ts x rest e. f.sound ts x rest e ∙ ap (λ l. l ++ rest) (same x);
+  sound = λ ts x rest e. let part = f.sound ts x rest e in (part.0, part.1 ∙ ap (λ l. l ++ rest) (same x));
   complete = λ x can rest. ap (λ l. p (l ++ rest)) (sym (same x)) ∙ f.complete x can rest;
 }
+
+-- arguments in parentheses
+pub one_argument : {X : Type 0} {p : Parser X} (a : X → Argument) → Faithful (λ x. Held (a x)) (λ x. argument (a x)) p → Faithful (λ x. AllHeld (a x ∷ [])) (λ x. in_parentheses (a x ∷ [])) (bracketed p)
+one_argument a f = retold (λ x h. (h, tt)) (λ x h. h.0) (bracketed_faithful f)
+
+pub two_arguments : {X Y : Type 0} {p : Parser X} {q : Parser Y} (a : X → Argument) (b : Y → Argument) → Faithful (λ x. Held (a x)) (λ x. argument (a x)) p → Faithful (λ y. Held (b y)) (λ y. argument (b y)) q → Faithful (λ x. AllHeld (a x.0 ∷ b x.1 ∷ [])) (λ x. in_parentheses (a x.0 ∷ b x.1 ∷ [])) (bracketed (pair p q))
+two_arguments a b f g = retold (λ x h. (h.0, (h.1, tt))) (λ x h. (h.0, h.1.0)) (rewritten (λ x. simp append_assoc) (bracketed_faithful (pair_faithful f g)))
+
+pub three_arguments : {X Y Z : Type 0} {p : Parser X} {q : Parser Y} {r : Parser Z} (a : X → Argument) (b : Y → Argument) (c : Z → Argument) → Faithful (λ x. Held (a x)) (λ x. argument (a x)) p → Faithful (λ y. Held (b y)) (λ y. argument (b y)) q → Faithful (λ z. Held (c z)) (λ z. argument (c z)) r → Faithful (λ x. AllHeld (a x.0.0 ∷ b x.0.1 ∷ c x.1 ∷ [])) (λ x. in_parentheses (a x.0.0 ∷ b x.0.1 ∷ c x.1 ∷ [])) (bracketed (pair (pair p q) r))
+three_arguments a b c f g h = retold (λ x i. (i.0.0, (i.0.1, (i.1, tt)))) (λ x i. ((i.0, i.1.0), i.1.1.0)) (rewritten (λ x. simp append_assoc) (bracketed_faithful (pair_faithful (pair_faithful f g) h)))
+
+pub four_arguments : {X Y Z T : Type 0} {p : Parser X} {q : Parser Y} {r : Parser Z} {s : Parser T} (a : X → Argument) (b : Y → Argument) (c : Z → Argument) (d : T → Argument) → Faithful (λ x. Held (a x)) (λ x. argument (a x)) p → Faithful (λ y. Held (b y)) (λ y. argument (b y)) q → Faithful (λ z. Held (c z)) (λ z. argument (c z)) r → Faithful (λ t. Held (d t)) (λ t. argument (d t)) s → Faithful (λ x. AllHeld (a x.0.0 ∷ b x.0.1 ∷ c x.1.0 ∷ d x.1.1 ∷ [])) (λ x. in_parentheses (a x.0.0 ∷ b x.0.1 ∷ c x.1.0 ∷ d x.1.1 ∷ [])) (bracketed (pair (pair p q) (pair r s)))
+four_arguments a b c d f g h i = retold (λ x j. (j.0.0, (j.0.1, (j.1.0, (j.1.1, tt))))) (λ x j. ((j.0, j.1.0), (j.1.1.0, j.1.1.1.0))) (rewritten (λ x. simp append_assoc) (bracketed_faithful (pair_faithful (pair_faithful f g) (pair_faithful h i))))
 
 -- what f makes of each row's value is what g makes of its word
 pub row_is : {X Y : Type 0} (f : X → Y) (g : List ℕ → Y) (rs : Table X) → map (λ r. f r.1) rs ≡ map (λ r. g r.0) rs → (w : List ℕ) (x : X) → row rs w ≡ Some x → g w ≡ f x
@@ -162,15 +191,21 @@ pub chosen_faithful : {X : Type 0} (e : Expected) (word : X → List ℕ) (rs : 
 chosen_faithful {X} e word rs same solid finds = record {
   sound = λ ts x rest h.
       let is = taken_ok e (row rs (first ts)) ts x rest h in
-      first_is (word x) ts (solid x) (row_is word (λ w. w) rs same (first ts) x is.0)
-      ∙ ap (λ l. word x ∷ l) is.1;
+      (tt, first_is (word x) ts (solid x) (row_is word (λ w. w) rs same (first ts) x is.0) ∙ ap (λ l. word x ∷ l) is.1);
   complete = λ x can rest. ap (λ o. taken e o (word x ∷ rest)) (finds x);
 }
 
 -- a case whose arguments are read as they are written
-pub variant_sound : {X O : Type 0} {Can : X → Type 0} {W : X → Tokens} {p : Parser X} (write : O → Tokens) (make : X → O) (name : List ℕ) → Faithful Can W p → ((x : X) → name ∷ W x ≡ write (make x)) → (ts : Tokens) (o : O) (rest : Tokens) → via make p ts ≡ Ok (o, rest) → name ∷ ts ≡ write o ++ rest
-variant_sound {X} {O} {Can} {W} {p} write make name part is ts o rest e =
+pub variant_sound : {X O : Type 0} {W : X → Tokens} {p : Parser X} (Can : O → Type 0) (write : O → Tokens) (make : X → O) (name : List ℕ) → Faithful (λ x. Can (make x)) W p → ((x : X) → name ∷ W x ≡ write (make x)) → (ts : Tokens) (o : O) (rest : Tokens) → via make p ts ≡ Ok (o, rest) → Can o × (name ∷ ts ≡ write o ++ rest)
+variant_sound {X} {O} {W} {p} Can write make name arguments is ts o rest e =
     let one = via_sound make p ts o rest e in
-    ap (λ l. name ∷ l) (part.sound ts one.0 rest one.1.0)
-    ∙ ap (λ l. l ++ rest) (is one.0)
-    ∙ ap (λ y. write y ++ rest) one.1.1
+    let part = arguments.sound ts one.0 rest one.1.0 in
+    (subst Can one.1.1 part.0, ap (λ l. name ∷ l) part.1 ∙ ap (λ l. l ++ rest) (is one.0) ∙ ap (λ y. write y ++ rest) one.1.1)
+
+-- a case that is written alone has no arguments
+pub alone_held : (w : List ℕ) (v : Variant) → w ∷ [] ≡ variant v → AllHeld v.arguments
+alone_held w v e = none_held v.arguments (ap others e)
+  where
+    none_held : (xs : List Argument) → [] ≡ in_parentheses xs → AllHeld xs
+    none_held [] e = tt
+    none_held (a ∷ xs) e = let len = ap length e in absurd (omega arith)

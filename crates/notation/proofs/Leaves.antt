@@ -13,7 +13,7 @@ use Rattle.armv7.specs.declared.status.StatusRegMask.{StatusRegMask}
 use Rattle.armv7.specs.declared.status.StatusRegMask.TheVariants.{CPSR_C, CPSR_X, CPSR_XC, APSR_G, CPSR_SC, CPSR_SX, CPSR_SXC, APSR_NZCVQ, CPSR_FC, CPSR_FX, CPSR_FXC, APSR_NZCVQG, CPSR_FSC, CPSR_FSX, CPSR_FSXC, SPSR, SPSR_C, SPSR_X, SPSR_XC, SPSR_S, SPSR_SC, SPSR_SX, SPSR_SXC, SPSR_F, SPSR_FC, SPSR_FX, SPSR_FXC, SPSR_FS, SPSR_FSC, SPSR_FSX, SPSR_FSXC}
 use Rattle.std.proofs.lemmas.Fmt.{decimal_is_IsNumeral, decimal_nonempty}
 use Rattle.std.proofs.lemmas.Slice.Eq.{bytes_eq-Decides}
-use Rattle.std.proofs.lemmas.Bool.{cond-true, cond-false, cases_Bool, and_parts, and_from, leb-true, le-leb, eqb-true}
+use Rattle.std.proofs.lemmas.Bool.{cond-true, cond-false, cases_Bool, and_parts, and_from, leb-true, le-leb, eqb-true, eq-eqb, both_ways}
 use Rattle.std.specs.Str.Parse.{digits_value, AllDigits}
 use Rattle.std.specs.Str.{bytes_eq}
 use Rattle.armv7.specs.declared.fault.Fault.{Fault}
@@ -153,7 +153,7 @@ number_faithful e most h = record {
       let is = taken_ok e (numeral most (first ts)) ts n rest r in
       let text = numeral_sound most (first ts) n is.0 in
       let small = text.1 in
-      first_is (decimal n) ts (decimal_nonempty n (omega arith)) text.0 ∙ ap (λ l. decimal n ∷ l) is.1;
+      (small, first_is (decimal n) ts (decimal_nonempty n (omega arith)) text.0 ∙ ap (λ l. decimal n ∷ l) is.1);
   complete = λ n can rest. ap (λ o. taken e o (decimal n ∷ rest)) (numeral_complete most n h can);
 }
 
@@ -162,15 +162,18 @@ judged_ok e (Err f) ts x rest h = absurd (let z : ◌≡◌ {A = ℕ} 0 1 = cc i
 judged_ok e (Ok y) ts x rest h = let is = ok_pair y x (others ts) rest h in (ap (λ v. Ok v) is.0, is.1)
 
 -- a number that stands for something
-numbered_faithful : {X : Type 0} {Can : X → Type 0} (e : Expected) (most : ℕ) → most < 2 ^ 64 → (f : ℕ → Result X (Option Fault)) (g : X → ℕ) → ((x : X) → Can x → g x ≤ most) → ((x : X) → Can x → f (g x) ≡ Ok x) → ((n : ℕ) (x : X) → f n ≡ Ok x → g x ≡ n) → Faithful Can (λ x. decimal (g x) ∷ []) (numbered e most f)
+numbered_faithful : {X : Type 0} {Can : X → Type 0} (e : Expected) (most : ℕ) → most < 2 ^ 64 → (f : ℕ → Result X (Option Fault)) (g : X → ℕ) → ((x : X) → Can x → g x ≤ most) → ((x : X) → Can x → f (g x) ≡ Ok x) → ((n : ℕ) (x : X) → f n ≡ Ok x → Can x × (g x ≡ n)) → Faithful Can (λ x. decimal (g x) ∷ []) (numbered e most f)
 numbered_faithful {X} {Can} e most h f g small back forth = record {
   sound = λ ts x rest r.
       let one = then_ok (number e most ts) (λ n. judged e (f n.0) ts) (x, rest) r in
       let is = judged_ok e (f one.0.0) ts x rest one.1.1 in
       let was = taken_ok e (numeral most (first ts)) ts one.0.0 one.0.1 one.1.0 in
-      (number_faithful e most h).sound ts one.0.0 one.0.1 one.1.0
-      ∙ ap (λ n. decimal n ∷ one.0.1) (sym (forth one.0.0 x is.0))
-      ∙ ap (λ l. decimal (g x) ∷ l) (sym was.1 ∙ is.1);
+      let from = forth one.0.0 x is.0 in (
+        from.0,
+        ((number_faithful e most h).sound ts one.0.0 one.0.1 one.1.0).1
+            ∙ ap (λ n. decimal n ∷ one.0.1) (sym from.1)
+            ∙ ap (λ l. decimal (g x) ∷ l) (sym was.1 ∙ is.1),
+      );
   complete = λ x can rest.
       ap (λ o. then o (λ n. judged e (f n.0) (decimal (g x) ∷ rest))) ((number_faithful e most h).complete (g x) (small x can) rest)
       ∙ ap (λ r. judged e r (decimal (g x) ∷ rest)) (back x can);
@@ -226,7 +229,7 @@ reg_is : (n : ℕ) (r : Reg) → item RegisterFault registers n ≡ Ok r → reg
 reg_is n r e = let is = item_counts RegisterFault reg_number 0 registers (refl, (refl, (refl, (refl, (refl, (refl, (refl, (refl, (refl, (refl, (refl, (refl, (refl, (refl, (refl, (refl, tt)))))))))))))))) n r e in omega arith
 
 pub register_faithful : Faithful (λ _. Unit {0}) (λ r. in_braces (codes "Reg") (codes "bits") (reg_number r)) register
-register_faithful = after_faithful (RegName ∷ OpenBrace ∷ Bits ∷ Colon ∷ []) (omega arith, (omega arith, (omega arith, (omega arith, tt)))) (before_faithful (CloseBrace ∷ []) (omega arith, tt) (numbered_faithful Register 255 (omega arith) (item RegisterFault registers) reg_number (λ r _. reg_small r) (λ r _. reg_item r) reg_is))
+register_faithful = after_faithful (RegName ∷ OpenBrace ∷ Bits ∷ Colon ∷ []) (omega arith, (omega arith, (omega arith, (omega arith, tt)))) (before_faithful (CloseBrace ∷ []) (omega arith, tt) (numbered_faithful Register 255 (omega arith) (item RegisterFault registers) reg_number (λ r _. reg_small r) (λ r _. reg_item r) (λ n r e. (tt, reg_is n r e))))
 
 creg_small : (r : CReg) → creg_number r ≤ 255
 creg_small C0 = omega arith
@@ -268,7 +271,7 @@ creg_is : (n : ℕ) (r : CReg) → item RegisterFault controls n ≡ Ok r → cr
 creg_is n r e = let is = item_counts RegisterFault creg_number 0 controls (refl, (refl, (refl, (refl, (refl, (refl, (refl, (refl, (refl, (refl, (refl, (refl, (refl, (refl, (refl, (refl, tt)))))))))))))))) n r e in omega arith
 
 pub control_faithful : Faithful (λ _. Unit {0}) (λ r. in_braces (codes "CReg") (codes "bits") (creg_number r)) control
-control_faithful = after_faithful (CRegName ∷ OpenBrace ∷ Bits ∷ Colon ∷ []) (omega arith, (omega arith, (omega arith, (omega arith, tt)))) (before_faithful (CloseBrace ∷ []) (omega arith, tt) (numbered_faithful Control 255 (omega arith) (item RegisterFault controls) creg_number (λ r _. creg_small r) (λ r _. creg_item r) creg_is))
+control_faithful = after_faithful (CRegName ∷ OpenBrace ∷ Bits ∷ Colon ∷ []) (omega arith, (omega arith, (omega arith, (omega arith, tt)))) (before_faithful (CloseBrace ∷ []) (omega arith, tt) (numbered_faithful Control 255 (omega arith) (item RegisterFault controls) creg_number (λ r _. creg_small r) (λ r _. creg_item r) (λ n r e. (tt, creg_is n r e))))
 
 -- is n one of the shift words?
 abbrev lawful : ℕ → Bool
@@ -285,12 +288,22 @@ word_lawful n h = and_from _ _ (le-leb _ _ h.range) (by (eqb (bit 16 n) 1) (eqb 
 shift_back : (s : RegShift) → IsShiftWord s.«data» → shift_of s.«data» ≡ Ok s
 shift_back s h = cond-true _ _ _ (word_lawful s.«data» h)
 
-shift_forth : (n : ℕ) (s : RegShift) → shift_of n ≡ Ok s → s.«data» ≡ n
-shift_forth n s e = by (lawful n) e
+lawful_word : (n : ℕ) → lawful n ≡ true → IsShiftWord n
+lawful_word n e =
+    let parts = and_parts _ _ e in
+    record {
+      range = leb-true _ _ parts.0;
+      apart = λ a b. both_ways _ (ap not (and_from _ _ (eq-eqb _ _ a) (eq-eqb _ _ b))) parts.1;
+    }
+
+shift_forth : (n : ℕ) (s : RegShift) → shift_of n ≡ Ok s → IsShiftWord s.«data» × (s.«data» ≡ n)
+shift_forth n s e = by (lawful n) refl e
   where
-    by : (t : Bool) → cond t (Ok (record { «data» = n })) (Err (Some ShiftWordFault)) ≡ Ok s → s.«data» ≡ n
-    by true e = ap (λ x. x.«data») (sym (ok_is (record { «data» = n }) s e))
-    by false e = absurd (let z : ◌≡◌ {A = ℕ} 0 1 = cc in omega arith)
+    by : (t : Bool) → lawful n ≡ t → cond t (Ok (record { «data» = n })) (Err (Some ShiftWordFault)) ≡ Ok s → IsShiftWord s.«data» × (s.«data» ≡ n)
+    by true l e =
+        let is : s ≡ record { «data» = n } = sym (ok_is (record { «data» = n }) s e) in
+        (subst (λ x. IsShiftWord x.«data») (sym is) (lawful_word n l), ap (λ x. x.«data») is)
+    by false l e = absurd (let z : ◌≡◌ {A = ℕ} 0 1 = cc in omega arith)
 
 word_small : (s : RegShift) → IsShiftWord s.«data» → s.«data» ≤ 65535
 word_small s h = let small = h.range in omega arith
@@ -298,9 +311,12 @@ word_small s h = let small = h.range in omega arith
 pub shift_faithful : Faithful (λ s. Held (a_shift s)) (λ r. in_braces (codes "RegShift") (codes "data") r.«data») shift
 shift_faithful = after_faithful (RegShiftName ∷ OpenBrace ∷ Data ∷ Colon ∷ []) (omega arith, (omega arith, (omega arith, (omega arith, tt)))) (before_faithful (CloseBrace ∷ []) (omega arith, tt) (numbered_faithful ShiftWord 65535 (omega arith) shift_of (λ s. s.«data») word_small shift_back shift_forth))
 
-minus_is : (n : ℕ) (z : ℤ) → negative n ≡ Ok z → signed_tokens z ≡ codes "-" ∷ decimal n ∷ []
-minus_is zero z e = absurd (let no_such : ◌≡◌ {A = ℕ} 0 1 = cc in omega arith)
-minus_is (suc n) z e = sym (ap signed_tokens (ok_is (negsuc n) z e))
+minus_is : (n : ℕ) (z : ℤ) → n ≤ 2147483648 → negative n ≡ Ok z → Held (a_distance z) × (signed_tokens z ≡ codes "-" ∷ decimal n ∷ [])
+minus_is zero z h e = absurd (let no_such : ◌≡◌ {A = ℕ} 0 1 = cc in omega arith)
+minus_is (suc n) z h e =
+    let is = ok_is (negsuc n) z e in
+    let small : n ≤ 2147483647 = omega arith in
+    (subst (λ y. Held (a_distance y)) is small, sym (ap signed_tokens is))
 
 no_minus : (n : ℕ) → n < 2 ^ 64 → bytes_eq (decimal n) (codes "-") ≡ false
 no_minus n h = ⊎_elim
@@ -308,22 +324,26 @@ no_minus n h = ⊎_elim
     (λ f. f)
     (cases_Bool (bytes_eq (decimal n) (codes "-")))
 
-distance_sound : (ts : Tokens) (z : ℤ) (rest : Tokens) → distance ts ≡ Ok (z, rest) → ts ≡ signed_tokens z ++ rest
+distance_sound : (ts : Tokens) (z : ℤ) (rest : Tokens) → distance ts ≡ Ok (z, rest) → Held (a_distance z) × (ts ≡ signed_tokens z ++ rest)
 distance_sound ts z rest e = by (bytes_eq (first ts) (codes "-")) refl e
   where
-    by : (t : Bool) → bytes_eq (first ts) (codes "-") ≡ t → cond t (numbered Distance 2147483648 negative (others ts)) (via pos (number Distance 2147483647) ts) ≡ Ok (z, rest) → ts ≡ signed_tokens z ++ rest
+    by : (t : Bool) → bytes_eq (first ts) (codes "-") ≡ t → cond t (numbered Distance 2147483648 negative (others ts)) (via pos (number Distance 2147483647) ts) ≡ Ok (z, rest) → Held (a_distance z) × (ts ≡ signed_tokens z ++ rest)
     by true s e =
         let one = then_ok (number Distance 2147483648 (others ts)) (λ n. judged Distance (negative n.0) (others ts)) (z, rest) e in
         let is = judged_ok Distance (negative one.0.0) (others ts) z rest one.1.1 in
         let was = taken_ok Distance (numeral 2147483648 (first (others ts))) (others ts) one.0.0 one.0.1 one.1.0 in
-        first_is (codes "-") ts (omega arith) ((bytes_eq-Decides _ _).0 s)
-        ∙ ap (λ l. codes "-" ∷ l) ((number_faithful Distance 2147483648 (omega arith)).sound (others ts) one.0.0 one.0.1 one.1.0)
-        ∙ ap (λ l. codes "-" ∷ decimal one.0.0 ∷ l) (sym was.1 ∙ is.1)
-        ∙ sym (ap (λ l. l ++ rest) (minus_is one.0.0 z is.0))
+        let part = (number_faithful Distance 2147483648 (omega arith)).sound (others ts) one.0.0 one.0.1 one.1.0 in
+        let from = minus_is one.0.0 z part.0 is.0 in (
+          from.0,
+          first_is (codes "-") ts (omega arith) ((bytes_eq-Decides _ _).0 s)
+              ∙ ap (λ l. codes "-" ∷ l) part.1
+              ∙ ap (λ l. codes "-" ∷ decimal one.0.0 ∷ l) (sym was.1 ∙ is.1)
+              ∙ sym (ap (λ l. l ++ rest) from.1),
+        )
     by false s e =
         let one = via_sound pos (number Distance 2147483647) ts z rest e in
-        (number_faithful Distance 2147483647 (omega arith)).sound ts one.0 rest one.1.0
-        ∙ ap (λ y. signed_tokens y ++ rest) one.1.1
+        let part = (number_faithful Distance 2147483647 (omega arith)).sound ts one.0 rest one.1.0 in
+        (subst (λ y. Held (a_distance y)) one.1.1 part.0, part.1 ∙ ap (λ y. signed_tokens y ++ rest) one.1.1)
 
 distance_complete : (z : ℤ) → Held (a_distance z) → (rest : Tokens) → distance (signed_tokens z ++ rest) ≡ Ok (z, rest)
 distance_complete (pos n) can rest =

@@ -1,86 +1,105 @@
 -- How a line's tokens come off its front. Assumes nothing.
-use Rattle.std.proofs.Common.{◌≡◌, ℕ, zero, suc, ◌+◌, ◌-◌, ◌<◌, ◌≤◌, Bool, true, false, List, [], ◌∷◌, ◌++◌, length, get_or, take, drop, sym, refl, ap, ◌∙◌, ⊎_elim, arith, length-take-le, get_or-drop, get_or-take, rules}
-use Rattle.std.proofs.lemmas.List.{at_drop_more, take-append-drop, length-drop, drop_all, drop_more, drop-drop, take_at}
-use Rattle.std.proofs.lemmas.Bool.{cond-true, cond-false, cases_lt, both_ways}
+use Rattle.std.proofs.Common.{◌≡◌, ℕ, suc, ◌+◌, ◌-◌, ◌<◌, ◌≤◌, Bool, true, false, cond, List, [], ◌∷◌, length, get_or, take, drop, sym, refl, ap, ◌∙◌, arith, get_or-drop}
+use Rattle.std.specs.List.{prefix_len}
+use Rattle.std.proofs.lemmas.List.{length-drop, drop-drop, take_all}
+use Rattle.std.proofs.lemmas.List.Sums.{prefix_len-le-length}
+use Rattle.std.proofs.lemmas.Bool.{cond-true, cond-false}
 use Rattle.std.proofs.lemmas.Bool.Decides.{nat_tests}
-use Rattle.notation.specs.Tokens.{blank, wordy, opens_wordy, put, tokens, first, others, Takes}
+use Rattle.notation.specs.Tokens.{blank, wordy, put, tokens, first, others, first_len}
 
-pub blank_passed : (line : List ℕ) (i : ℕ) → i < length line → blank (get_or line i 0) ≡ true → tokens (drop (i + 1) line) ≡ tokens (drop i line)
-blank_passed line i h b = sym (at_drop_more tokens line i 0 h ∙ cond-true _ _ _ b)
+one_more : (n : ℕ) → 1 + n ≡ suc n
+one_more n = omega arith
+
+-- blanks in front are passed over
+blanks_passed : (bs : List ℕ) → tokens (drop (prefix_len blank bs) bs) ≡ tokens bs
+blanks_passed [] = refl
+blanks_passed (b ∷ bs) = by (blank b) refl (blanks_passed bs)
+  where
+    by : (t : Bool) → blank b ≡ t → tokens (drop (prefix_len blank bs) bs) ≡ tokens bs → tokens (drop (cond t (1 + prefix_len blank bs) 0) (b ∷ bs)) ≡ tokens (b ∷ bs)
+    by true e later = ap (λ n. tokens (drop n (b ∷ bs))) (one_more (prefix_len blank bs)) ∙ later ∙ sym (cond-true _ _ _ e)
+    by false e later = refl
+
+-- and no blank stands after them
+blanks_end : (bs : List ℕ) → prefix_len blank bs < length bs → blank (get_or bs (prefix_len blank bs) 0) ≡ false
+blanks_end [] h = absurd (omega arith)
+blanks_end (b ∷ bs) h = by (blank b) refl h (blanks_end bs)
+  where
+    by : (t : Bool) → blank b ≡ t → cond t (1 + prefix_len blank bs) 0 < length (b ∷ bs) → (prefix_len blank bs < length bs → blank (get_or bs (prefix_len blank bs) 0) ≡ false) → blank (get_or (b ∷ bs) (cond t (1 + prefix_len blank bs) 0) 0) ≡ false
+    by true e h later = ap (λ n. blank (get_or (b ∷ bs) n 0)) (one_more (prefix_len blank bs)) ∙ later (omega arith)
+    by false e h later = e
 
 not_blank : (b : ℕ) → wordy b ≡ true → blank b ≡ false
 not_blank b h = grind (arith, nat_tests)
 
-abbrev Wordy : List ℕ → Type 0
-Wordy ws = (k : ℕ) → k < length ws → wordy (get_or ws k 0) ≡ true
+-- a word is the first token
+word_first : (b : ℕ) (bs : List ℕ) → wordy b ≡ true → tokens (b ∷ bs) ≡ (b ∷ take (prefix_len wordy bs) bs) ∷ tokens (drop (prefix_len wordy bs) bs)
+word_first b [] h = cond-false _ _ _ (not_blank b h) ∙ cond-true _ _ _ h
+word_first b (c ∷ cs) h = cond-false _ _ _ (not_blank b h) ∙ cond-true _ _ _ h ∙ by (wordy c) refl (word_first c cs)
+  where
+    by : (t : Bool) → wordy c ≡ t → (wordy c ≡ true → tokens (c ∷ cs) ≡ (c ∷ take (prefix_len wordy cs) cs) ∷ tokens (drop (prefix_len wordy cs) cs)) → put b t (tokens (c ∷ cs)) ≡ (b ∷ take (cond t (1 + prefix_len wordy cs) 0) (c ∷ cs)) ∷ tokens (drop (cond t (1 + prefix_len wordy cs) 0) (c ∷ cs))
+    by true e later = ap (put b true) (later e) ∙ ap (λ n. (b ∷ take n (c ∷ cs)) ∷ tokens (drop n (c ∷ cs))) (sym (one_more (prefix_len wordy cs)))
+    by false e later = refl
 
-put_alone : (b : ℕ) (t : Bool) (ts : List (List ℕ)) → t ≡ false → put b t ts ≡ (b ∷ []) ∷ ts
-put_alone b true ts e = absurd (search rules)
-put_alone b false ts e = refl
-
-put_joined : (b : ℕ) (t : Bool) (u : List ℕ) (ts : List (List ℕ)) → t ≡ true → put b t (u ∷ ts) ≡ (b ∷ u) ∷ ts
-put_joined b true u ts e = refl
-put_joined b false u ts e = absurd (search rules)
-
-wordy_first : (b : ℕ) (bs : List ℕ) → wordy b ≡ true → tokens (b ∷ bs) ≡ put b (opens_wordy bs) (tokens bs)
-wordy_first b bs h = cond-false _ _ _ (not_blank b h) ∙ cond-true _ _ _ h
-
-word_first : (w : ℕ) (ws bs : List ℕ) → Wordy (w ∷ ws) → opens_wordy bs ≡ false → tokens ((w ∷ ws) ++ bs) ≡ (w ∷ ws) ∷ tokens bs
-word_first w [] bs all ends = wordy_first w bs (all 0 (omega arith)) ∙ put_alone w _ _ ends
-word_first w (v ∷ ws) bs all ends =
-    wordy_first w ((v ∷ ws) ++ bs) (all 0 (omega arith))
-    ∙ ap (put w (wordy v)) (word_first v ws bs (λ k h. all (suc k) (omega arith)) ends)
-    ∙ put_joined w (wordy v) (v ∷ ws) (tokens bs) (all 1 (omega arith))
-
+-- so is any other byte that is not blank
 mark_first : (b : ℕ) (bs : List ℕ) → blank b ≡ false → wordy b ≡ false → tokens (b ∷ bs) ≡ (b ∷ []) ∷ tokens bs
 mark_first b bs h k = cond-false _ _ _ h ∙ cond-false _ _ _ k
 
-pub at_end : (line : List ℕ) (i j : ℕ) → length line ≤ i → i ≤ j → Takes line i j
-at_end line i j h k =
-    let none : drop i line ≡ [] = drop_all i line h in
-    let later : drop j line ≡ [] = drop_all j line (omega arith) in
-    record { value = ap (take (j - i)) none ∙ take_none (j - i) ∙ sym (ap (λ l. first (tokens l)) none); after = ap tokens later ∙ sym (ap (λ l. others (tokens l)) none) }
+record First (bs : List ℕ) : Type 0 where
+  pub within : first_len bs ≤ length bs
+  pub value : take (first_len bs) bs ≡ first (tokens bs)
+  pub after : tokens (drop (first_len bs) bs) ≡ others (tokens bs)
+
+first_token : (bs : List ℕ) → (0 < length bs → blank (get_or bs 0 0) ≡ false) → First bs
+first_token [] h = record { within = omega arith; value = refl; after = refl }
+first_token (b ∷ bs) h = by (wordy b) refl
   where
-    take_none : (n : ℕ) → take {A = ℕ} n [] ≡ []
-    take_none zero = refl
-    take_none (suc n) = refl
+    by : (t : Bool) → wordy b ≡ t → First (b ∷ bs)
+    by true e =
+        let is = word_first b bs e in
+        let len : first_len (b ∷ bs) ≡ suc (prefix_len wordy bs) = cond-true _ _ _ e ∙ cond-true _ _ _ e ∙ one_more (prefix_len wordy bs) in
+        let small = prefix_len-le-length wordy bs in
+        record {
+          within = omega arith;
+          value = ap (λ n. take n (b ∷ bs)) len ∙ sym (ap first is);
+          after = ap (λ n. tokens (drop n (b ∷ bs))) len ∙ sym (ap others is);
+        }
+    by false e =
+        let is = mark_first b bs (h (omega arith)) e in
+        let len : first_len (b ∷ bs) ≡ 1 = cond-false _ _ _ e in
+        record {
+          within = omega arith;
+          value = ap (λ n. take n (b ∷ bs)) len ∙ sym (ap first is);
+          after = ap (λ n. tokens (drop n (b ∷ bs))) len ∙ sym (ap others is);
+        }
 
--- what comes off a front that is written out
-split_off : (line front : List ℕ) (i j : ℕ) → i ≤ j → drop i line ≡ front ++ drop j line → length front ≡ j - i → tokens (front ++ drop j line) ≡ front ∷ tokens (drop j line) → Takes line i j
-split_off line front i j h e len t = record {
-  value = ap (take (j - i)) e ∙ take_at front (drop j line) (j - i) len ∙ sym (ap (λ l. first (tokens l)) e ∙ ap first t);
-  after = sym (ap (λ l. others (tokens l)) e ∙ ap others t);
-}
+-- the next token of a line: after k blanks, of length n
+pub record Next (line : List ℕ) (at k n : ℕ) : Type 0 where
+  pub within : (at + k) + n ≤ length line
+  pub opens : at + k < length line → blank (get_or line (at + k) 0) ≡ false
+  pub left : tokens (drop (at + k) line) ≡ tokens (drop at line)
+  pub value : take n (drop (at + k) line) ≡ first (tokens (drop at line))
+  pub after : tokens (drop ((at + k) + n) line) ≡ others (tokens (drop at line))
 
-pub at_mark : (line : List ℕ) (i : ℕ) → i < length line → blank (get_or line i 0) ≡ false → wordy (get_or line i 0) ≡ false → Takes line i (i + 1)
-at_mark line i h b w = split_off line (get_or line i 0 ∷ []) i (i + 1) (omega arith) (drop_more line i 0 h) (omega arith) (mark_first _ (drop (i + 1) line) b w)
+-- what is read is the rest of the line
+rest_is : (line : List ℕ) (at : ℕ) → take (length line - at) (drop at line) ≡ drop at line
+rest_is line at = take_all _ _ (omega (arith, length-drop at line))
 
-opens_at : (line : List ℕ) (j : ℕ) → (j < length line → wordy (get_or line j 0) ≡ false) → opens_wordy (drop j line) ≡ false
-opens_at line j stops = ⊎_elim
-    (λ h. ap opens_wordy (drop_more line j 0 h) ∙ stops h)
-    (λ h. ap opens_wordy (drop_all j line h))
-    (cases_lt j (length line))
-
-word_is : (ws bs : List ℕ) → 0 < length ws → Wordy ws → opens_wordy bs ≡ false → tokens (ws ++ bs) ≡ ws ∷ tokens bs
-word_is [] bs h all ends = absurd (omega arith)
-word_is (w ∷ ws) bs h all ends = word_first w ws bs all ends
-
-at_word : (line : List ℕ) (i j : ℕ) → i < j → j ≤ length line → ((k : ℕ) → i ≤ k → k < j → wordy (get_or line k 0) ≡ true) → (j < length line → wordy (get_or line j 0) ≡ false) → Takes line i j
-at_word line i j h within all stops =
-    let long : length (take (j - i) (drop i line)) ≡ j - i = length-take-le (j - i) (drop i line) (simp length-drop (omega arith)) in
-    split_off line (take (j - i) (drop i line)) i j (omega arith)
-    (sym (ap (λ l. take (j - i) (drop i line) ++ l) (sym (drop-drop (j - i) i line ∙ ap (λ n. drop n line) (omega arith))) ∙ take-append-drop (j - i) (drop i line)))
-    long
-    (word_is (take (j - i) (drop i line)) (drop j line) (omega arith)
-    (λ k kh. let lt : k < j - i = omega arith in ap wordy (get_or-take (j - i) (drop i line) k 0 lt ∙ get_or-drop i line k 0) ∙ all (i + k) (omega arith) (omega arith))
-    (opens_at line j stops))
-
--- the run of wordy bytes from i on is not empty where the first of them is
-run_some : (line : List ℕ) (i j : ℕ) → i < length line → i ≤ j → wordy (get_or line i 0) ≡ true → (j < length line → wordy (get_or line j 0) ≡ false) → i < j
-run_some line i j h k w stops = ⊎_elim
-    (λ lt. lt)
-    (λ ge. let same : j ≡ i = omega arith in absurd (both_ways _ (ap (λ n. wordy (get_or line n 0)) (sym same) ∙ stops (omega arith)) w))
-    (cases_lt i j)
-
-pub at_run : (line : List ℕ) (i j : ℕ) → i < length line → i ≤ j → j ≤ length line → wordy (get_or line i 0) ≡ true → ((k : ℕ) → i ≤ k → k < j → wordy (get_or line k 0) ≡ true) → (j < length line → wordy (get_or line j 0) ≡ false) → Takes line i j
-at_run line i j h k within w all stops = at_word line i j (run_some line i j h k w stops) within all stops
+pub next_token : (line : List ℕ) (at k n : ℕ) → at ≤ length line → k ≡ prefix_len blank (take (length line - at) (drop at line)) → n ≡ first_len (take (length line - (at + k)) (drop (at + k) line)) → Next line at k n
+next_token line at k n h is ends =
+    let ahead = drop at line in
+    let passed : k ≡ prefix_len blank ahead = is ∙ ap (prefix_len blank) (rest_is line at) in
+    let short = prefix_len-le-length blank ahead in
+    let starts : at + k ≤ length line = omega (arith, length-drop at line) in
+    let rest : drop k ahead ≡ drop (at + k) line = drop-drop k at line in
+    let opens : at + k < length line → blank (get_or line (at + k) 0) ≡ false =
+    λ i. ap blank (sym (get_or-drop at line k 0)) ∙ ap (λ j. blank (get_or ahead j 0)) passed ∙ blanks_end ahead (omega (arith, length-drop at line)) in
+    let left : tokens (drop (at + k) line) ≡ tokens ahead = ap tokens (sym rest) ∙ ap (λ j. tokens (drop j ahead)) passed ∙ blanks_passed ahead in
+    let one = first_token (drop (at + k) line) (λ i. ap blank (get_or-drop (at + k) line 0 0 ∙ ap (λ j. get_or line j 0) (omega arith)) ∙ opens (omega (arith, length-drop (at + k) line))) in
+    let len : n ≡ first_len (drop (at + k) line) = ends ∙ ap first_len (rest_is line (at + k)) in
+    record {
+      within = omega (arith, one.within, length-drop (at + k) line);
+      opens = opens;
+      left = left;
+      value = ap (λ j. take j (drop (at + k) line)) len ∙ one.value ∙ ap first left;
+      after = ap tokens (sym (drop-drop n (at + k) line)) ∙ ap (λ j. tokens (drop j (drop (at + k) line))) len ∙ one.after ∙ ap others left;
+    }

@@ -1,8 +1,9 @@
 -- A search through a table of words. Assumes nothing.
-use Rattle.std.proofs.Common.{◌≡◌, ℕ, ◌+◌, ◌<◌, ◌≤◌, Bool, true, false, cond, List, length, get_or, drop, Some, None, Decides, sym, refl, ap, ◌∙◌, ⊎_elim, Bor}
+use Rattle.std.proofs.Common.{◌≡◌, ℕ, Bool, true, false, cond, List, [], ◌∷◌, Some, None, Option, Decides, sym, refl, ap, ◌∙◌, ⊎_elim, Bor}
 use Rattle.std.proofs.lemmas.Slice.Eq.{bytes_eq-Decides}
-use Rattle.std.proofs.lemmas.List.{at_drop_more, at_drop_all}
-use Rattle.std.proofs.lemmas.Bool.{cond-true, cond-false, cases_Bool}
+use Rattle.std.proofs.lemmas.Bool.{cases_Bool}
+use Rattle.std.specs.List.{find}
+use Rattle.std.specs.Option.{option_map}
 use Rattle.std.specs.Str.{bytes_eq}
 use Rattle.notation.specs.Parsing.{row, rows}
 
@@ -10,18 +11,18 @@ pub same_from_decides : (xs ys : List ℕ) (r : Bool) → Decides r (xs ≡ ys) 
 same_from_decides xs ys true d = sym ((bytes_eq-Decides xs ys).1 (d.0 refl))
 same_from_decides xs ys false d = ⊎_elim (λ t. d.1 ((bytes_eq-Decides xs ys).0 t) ∙ sym t) sym (cases_Bool (bytes_eq xs ys))
 
-module _ {X : Type 0} (ps : List (Bor (List ℕ) × X)) (i : ℕ) (w : List ℕ) where
-  -- a search that has come to i, where p stands
-  at_pair : (p : Bor (List ℕ) × X) → i < length ps → p ≡ get_or ps i p → row (rows (drop i ps)) w ≡ cond (bytes_eq w p.0.now) (Some p.1) (row (rows (drop (i + 1) ps)) w)
-  at_pair p h e =
-      at_drop_more (λ l. row (rows l) w) ps i p h
-      ∙ ap (λ q. cond (bytes_eq w q.0.now) (Some q.1) (row (rows (drop (i + 1) ps)) w)) (sym e)
+-- a table is searched from its front
+row_find : {X : Type 0} (ps : List (Bor (List ℕ) × X)) (w : List ℕ) → row (rows ps) w ≡ option_map (λ p. p.1) (find (λ p. bytes_eq w p.0.now) ps)
+row_find [] w = refl
+row_find (p ∷ ps) w = by (bytes_eq w p.0.now) (row_find ps w)
+  where
+    by : (t : Bool) → row (rows ps) w ≡ option_map (λ p. p.1) (find (λ p. bytes_eq w p.0.now) ps) → cond t (Some p.1) (row (rows ps) w) ≡ option_map (λ p. p.1) (cond t (Some p) (find (λ p. bytes_eq w p.0.now) ps))
+    by true later = refl
+    by false later = later
 
-  pub row_found : (p : Bor (List ℕ) × X) → i < length ps → p ≡ get_or ps i p → true ≡ bytes_eq w p.0.now → row (rows (drop i ps)) w ≡ Some p.1
-  row_found p h e t = at_pair p h e ∙ cond-true _ _ _ (sym t)
-
-  pub row_passed : (p : Bor (List ℕ) × X) → i < length ps → p ≡ get_or ps i p → false ≡ bytes_eq w p.0.now → row (rows (drop (i + 1) ps)) w ≡ row (rows (drop i ps)) w
-  row_passed p h e t = sym (at_pair p h e ∙ cond-false _ _ _ (sym t))
-
-  pub row_missing : length ps ≤ i → row (rows (drop i ps)) w ≡ None
-  row_missing h = at_drop_all (λ l. row (rows l) w) ps i h
+pub row_found : {X : Type 0} (ps : List (Bor (List ℕ) × X)) (w : List ℕ) (r : Option (Bor (Bor (List ℕ) × X))) → option_map (λ p. p.now) r ≡ find (λ p. bytes_eq w p.0.now) ps → row (rows ps) w ≡ option_map (λ p. p.now.1) r
+row_found {X} ps w r e = row_find ps w ∙ ap (option_map (λ p. p.1)) (sym e) ∙ both r
+  where
+    both : (r : Option (Bor (Bor (List ℕ) × X))) → option_map (λ p. p.1) (option_map (λ p. p.now) r) ≡ option_map (λ p. p.now.1) r
+    both None = refl
+    both (Some p) = refl

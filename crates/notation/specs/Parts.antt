@@ -25,6 +25,11 @@ item f [] n = Err (Some f)
 item f (x ∷ xs) zero = Ok x
 item f (x ∷ xs) (suc n) = item f xs n
 
+-- a refusal in the reader's words
+abbrev pub refusable : {X : Type 0} → Result X Fault → Result X (Option Fault)
+refusable (Ok x) = Ok x
+refusable (Err f) = Err (Some f)
+
 -- NAME { FIELD: n }
 abbrev pub braced : {X : Type 0} → Given → Given → Parser X → Parser X
 braced name field p = after (name ∷ OpenBrace ∷ field ∷ Colon ∷ []) (before p (CloseBrace ∷ []))

@@ -1,7 +1,8 @@
 -- A line as tokens: a run of letters, digits and underscores is one, and so is every other byte that is not blank.
 -- Assumes nothing.
-use Rattle.std.specs.Prelude.{◌≡◌, ℕ, ◌-◌, Bool, true, false, cond, ◌||◌, List, [], ◌∷◌, take, drop, ◌==◌}
+use Rattle.std.specs.Prelude.{ℕ, Bool, true, false, cond, ◌||◌, List, [], ◌∷◌, ◌==◌}
 use Rattle.std.specs.Char.{is_ascii_alphanumeric}
+use Rattle.std.specs.List.{prefix_len}
 
 -- a space, a tab or a carriage return
 abbrev pub blank : ℕ → Bool
@@ -33,7 +34,7 @@ abbrev pub others : List (List ℕ) → List (List ℕ)
 others [] = []
 others (t ∷ ts) = ts
 
--- the first token of what follows i ends at j
-pub record Takes (line : List ℕ) (i j : ℕ) : Type 0 where
-  pub value : take (j - i) (drop i line) ≡ first (tokens (drop i line))
-  pub after : tokens (drop j line) ≡ others (tokens (drop i line))
+-- how long the token is that a text begins with
+abbrev pub first_len : List ℕ → ℕ
+first_len [] = 0
+first_len (b ∷ bs) = cond (wordy b) (prefix_len wordy (b ∷ bs)) 1

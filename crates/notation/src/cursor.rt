@@ -1,5 +1,5 @@
 // A place in a line.
-ghost use Rattle.std.specs.Prelude.{◌≤◌, length};
+ghost use Rattle.std.specs.Prelude.{◌≡◌, ◌≤◌, None, length};
 
 use armv7::Fault;
 use misreading::Expected;
@@ -18,4 +18,16 @@ pub struct Slip {
     pub expected: Expected,
     // Why a number that was read is none of a register or of a shift.
     pub refusal: Option<Fault>,
+}
+
+impl Slip {
+    // Another token was expected.
+    pub fn new(expected: Expected) -> Slip
+        ensures value { result ≡ record { expected = expected; refusal = None } }
+    {
+        Slip {
+            expected,
+            refusal: None,
+        }
+    }
 }

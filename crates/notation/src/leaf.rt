@@ -31,6 +31,7 @@ pub(crate) fn numeral_of(text: &[u8], most: u32) -> Option<u32>
     Some(value as u32)
 }
 
+// Kept: the library tells of `==` of slices that it decides, and the tables are searched by `bytes_eq`.
 pub(crate) fn same(a: &[u8], b: &[u8]) -> bool
     ensures { result ≡ bytes_eq a.now b.now }
 {
@@ -41,12 +42,8 @@ pub(crate) fn same(a: &[u8], b: &[u8]) -> bool
 pub fn row_of<T: Copy>(table: &[(&[u8], T)], word: &[u8]) -> Option<T>
     ensures value { result ≡ row (rows table.now) word.now }
 {
-    for known in table {
-        if same(word, known.0) {
-            return Some(known.1);
-        }
-    }
-    None
+    let known = table.iter().find(|known| same(word, known.0))?;
+    Some(known.1)
 }
 
 impl<'a> Cursor<'a> {
@@ -55,15 +52,11 @@ impl<'a> Cursor<'a> {
         ensures { Reads (given wanted) self.old result self.new }
     {
         let token = self.token();
-        if same(token.text, wanted.text()) {
-            self.at = token.end;
-            Ok(())
-        } else {
-            Err(Slip {
-                expected: Expected::Given(wanted),
-                refusal: None,
-            })
+        if !same(token.text, wanted.text()) {
+            return Err(Slip::new(Expected::Given(wanted)));
         }
+        self.at = token.end;
+        Ok(())
     }
 
     // Tokens that have to stand there, one after another.
@@ -81,16 +74,11 @@ impl<'a> Cursor<'a> {
         ensures reads { Reads (chosen expected (rows table.now)) self.old result self.new }
     {
         let token = self.token();
-        match row_of(table, token.text) {
-            Some(value) => {
-                self.at = token.end;
-                Ok(value)
-            }
-            None => Err(Slip {
-                expected,
-                refusal: None,
-            }),
-        }
+        let Some(value) = row_of(table, token.text) else {
+            return Err(Slip::new(expected));
+        };
+        self.at = token.end;
+        Ok(value)
     }
 
     // A number up to `most`.
@@ -99,15 +87,10 @@ impl<'a> Cursor<'a> {
         ensures bound { IfOk result (λ n. n ≤ most) }
     {
         let token = self.token();
-        match numeral_of(token.text, most) {
-            Some(value) => {
-                self.at = token.end;
-                Ok(value)
-            }
-            None => Err(Slip {
-                expected,
-                refusal: None,
-            }),
-        }
+        let Some(value) = numeral_of(token.text, most) else {
+            return Err(Slip::new(expected));
+        };
+        self.at = token.end;
+        Ok(value)
     }
 }

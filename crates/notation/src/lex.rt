@@ -1,9 +1,12 @@
-// Takes tokens off a line.
-ghost use Rattle.std.specs.Prelude.{◌≡◌, ℕ, ◌+◌, ◌-◌, ◌<◌, ◌≤◌, true, false, length, drop, slice_index};
+// Takes tokens off a line, and tells where one is not what was expected.
+ghost use Rattle.std.specs.Prelude.{◌≡◌, ◌+◌, ◌-◌, ◌≤◌, length, drop};
+ghost use Rattle.std.specs.List.{prefix_len};
 ghost use Rattle.notation.specs.Places.{ahead, Stands};
-ghost use Rattle.notation.specs.Tokens.{blank, wordy, tokens, first, others, Takes};
+ghost use Rattle.notation.specs.Reads.{stop, Tells};
+ghost use Rattle.notation.specs.Tokens.{blank, wordy, first_len, tokens, first, others};
 
-use crate::cursor::Cursor;
+use crate::cursor::{Cursor, Slip};
+use misreading::Misread;
 
 fn is_blank(b: u8) -> bool
     ensures { result ≡ blank b }
@@ -17,44 +20,30 @@ fn is_wordy(b: u8) -> bool
     b.is_ascii_alphanumeric() || b == b'_'
 }
 
-// Where the blanks from `from` on end.
-fn past_blanks(line: &[u8], from: usize) -> usize
-    requires { from ≤ length line.now }
-    ensures within { result ≤ length line.now }
-    ensures same { tokens (drop result line.now) ≡ tokens (drop from line.now) }
-    ensures stops { result < length line.now → blank (slice_index line.now result) ≡ false }
+// How many blanks a text begins with.
+fn blanks(text: &[u8]) -> usize
+    ensures value { result ≡ prefix_len blank text.now }
+    ensures within { result ≤ length text.now }
 {
-    let mut at = from;
-    while at < line.len() && is_blank(line[at]) {
-        at += 1;
-    }
-    at
+    text.iter().take_while(|b| is_blank(**b)).count()
 }
 
-// Where the word that stands at `from` ends.
-fn past_word(line: &[u8], from: usize) -> usize
-    requires { from ≤ length line.now }
-    ensures within { (from ≤ result) × (result ≤ length line.now) }
-    ensures all { (k : ℕ) → from ≤ k → k < result → wordy (slice_index line.now k) ≡ true }
-    ensures stops { result < length line.now → wordy (slice_index line.now result) ≡ false }
+// How many bytes of a word a text begins with.
+fn word_len(text: &[u8]) -> usize
+    ensures value { result ≡ prefix_len wordy text.now }
+    ensures within { result ≤ length text.now }
 {
-    let mut at = from;
-    while at < line.len() && is_wordy(line[at]) {
-        at += 1;
-    }
-    at
+    text.iter().take_while(|b| is_wordy(**b)).count()
 }
 
-// Where the token that stands at `from` ends; at the end of the line there is none.
-fn past_token(line: &[u8], from: usize) -> usize
-    requires { (from ≤ length line.now) × ((from < length line.now → blank (slice_index line.now from) ≡ false)) }
-    ensures within { (from ≤ result) × (result ≤ length line.now) }
-    ensures takes { Takes line.now from result }
+// How long the token is that a text begins with; where it is empty there is none.
+fn token_len(text: &[u8]) -> usize
+    ensures value { result ≡ first_len text.now }
+    ensures within { result ≤ length text.now }
 {
-    if from < line.len() && !is_wordy(line[from]) {
-        from + 1
-    } else {
-        past_word(line, from)
+    match text {
+        [b, ..] if !is_wordy(*b) => 1,
+        _ => word_len(text),
     }
 }
 
@@ -76,12 +65,25 @@ impl<'a> Cursor<'a> {
         ensures within { result.end ≤ length self.now.line.now }
         ensures after { tokens (drop result.end self.now.line.now) ≡ others (ahead self.now) }
     {
-        let start = past_blanks(self.line, self.at);
-        let end = past_token(self.line, start);
+        let start = self.at + blanks(&self.line[self.at..]);
+        let end = start + token_len(&self.line[start..]);
         Token {
             column: start + 1,
             text: &self.line[start..end],
             end,
+        }
+    }
+
+    // What is said of the next token, where this is wrong with it.
+    pub fn misread(&self, slip: Slip) -> Misread<'a>
+        ensures tells { Tells self.now.line.now result (stop slip (ahead self.now)) }
+    {
+        let token = self.token();
+        Misread {
+            column: token.column,
+            expected: slip.expected,
+            found: token.text,
+            refusal: slip.refusal,
         }
     }
 }

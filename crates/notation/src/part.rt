@@ -1,13 +1,15 @@
 // What can stand in an argument's place: flags, numbers, registers, shifts, banks and masks, and pairs of them.
+ghost use Rattle.std.specs.Prelude.{◌≡◌, ◌≤◌, ℕ, Option, Result};
+ghost use Rattle.armv7.specs.declared.fault.Fault.{Fault};
 ghost use Rattle.armv7.specs.declared.fault.Fault.TheVariants.{Register as RegisterFault};
-ghost use Rattle.misreading.specs.declared.misread.Expected.TheVariants.{Code as AnyCode, Halfword as AnyHalfword, Word as AnyWord, Distance as AnyDistance, Register as AnyRegister, Control as AnyControl, ShiftWord as AnyShift};
+ghost use Rattle.misreading.specs.declared.misread.Expected.TheVariants.{Code as AnyCode, Halfword as AnyHalfword, Word as AnyWord, Distance as AnyDistance};
 ghost use Rattle.notation.specs.Parsing.{Parser, bracketed, pair, number, numbered, flag};
-ghost use Rattle.notation.specs.Parts.{item, registers, controls, shift_of, register, control, shift, bank, mask, distance, negative};
+ghost use Rattle.notation.specs.Parts.{braced, item, refusable, registers, controls, shift_of, register, control, shift, bank, mask, distance, negative};
 ghost use Rattle.notation.specs.Reads.{Reads};
 
 use crate::cursor::{Cursor, Slip};
 use crate::leaf::{numeral_of, same};
-use armv7::{Bank, CReg, Reg, RegShift, StatusRegMask};
+use armv7::{Bank, CReg, Fault, Reg, RegShift, StatusRegMask};
 use misreading::{Expected, Given};
 
 pub trait Part: Copy {
@@ -16,6 +18,57 @@ pub trait Part: Copy {
 
     fn read(cursor: &mut Cursor<'_>) -> Result<Self, Slip>
         ensures reads { Reads parser cursor.old result cursor.new };
+}
+
+// A value that a number stands for.
+trait Numbered: Copy {
+    ghost MOST: { ℕ };
+
+    // The value with a number, or the refusal of the number.
+    ghost meaning: { ℕ → Result Self (Option Fault) };
+
+    // The largest number that is looked at.
+    const MOST: u32;
+
+    fn from_number(n: u32) -> Result<Self, Fault>
+        requires { n ≤ MOST }
+        ensures { refusable result ≡ meaning n };
+}
+
+impl Numbered for Reg {
+    ghost MOST = { 255 };
+
+    ghost meaning = { item RegisterFault registers };
+
+    const MOST: u32 = 255;
+
+    fn from_number(n: u32) -> Result<Reg, Fault> {
+        Reg::from_u8(n as u8)
+    }
+}
+
+impl Numbered for CReg {
+    ghost MOST = { 255 };
+
+    ghost meaning = { item RegisterFault controls };
+
+    const MOST: u32 = 255;
+
+    fn from_number(n: u32) -> Result<CReg, Fault> {
+        CReg::from_u8(n as u8)
+    }
+}
+
+impl Numbered for RegShift {
+    ghost MOST = { 65535 };
+
+    ghost meaning = { shift_of };
+
+    const MOST: u32 = 65535;
+
+    fn from_number(n: u32) -> Result<RegShift, Fault> {
+        RegShift::from_raw(n as u16)
+    }
 }
 
 const FLAGS: [(&[u8], bool); 2] = [(b"false", false), (b"true", true)];
@@ -118,10 +171,7 @@ impl Part for Reg {
     ghost parser = { register };
 
     fn read(cursor: &mut Cursor<'_>) -> Result<Reg, Slip> {
-        cursor.expect(&[Given::Reg, Given::OpenBrace, Given::Bits, Given::Colon])?;
-        let reg = cursor.register_number()?;
-        cursor.expect(&[Given::CloseBrace])?;
-        Ok(reg)
+        cursor.braced(Given::Reg, Given::Bits, Expected::Register)
     }
 }
 
@@ -129,10 +179,7 @@ impl Part for CReg {
     ghost parser = { control };
 
     fn read(cursor: &mut Cursor<'_>) -> Result<CReg, Slip> {
-        cursor.expect(&[Given::CReg, Given::OpenBrace, Given::Bits, Given::Colon])?;
-        let reg = cursor.control_number()?;
-        cursor.expect(&[Given::CloseBrace])?;
-        Ok(reg)
+        cursor.braced(Given::CReg, Given::Bits, Expected::Control)
     }
 }
 
@@ -140,10 +187,7 @@ impl Part for RegShift {
     ghost parser = { shift };
 
     fn read(cursor: &mut Cursor<'_>) -> Result<RegShift, Slip> {
-        cursor.expect(&[Given::RegShift, Given::OpenBrace, Given::Data, Given::Colon])?;
-        let shift = cursor.shift_word()?;
-        cursor.expect(&[Given::CloseBrace])?;
-        Ok(shift)
+        cursor.braced(Given::RegShift, Given::Data, Expected::ShiftWord)
     }
 }
 
@@ -176,73 +220,36 @@ impl<A: Part, B: Part> Part for (A, B) {
 }
 
 impl<'a> Cursor<'a> {
-    // The register with the number that stands there.
-    fn register_number(&mut self) -> Result<Reg, Slip>
-        ensures { Reads (numbered AnyRegister 255 (item RegisterFault registers)) self.old result self.new }
+    // The value with the number in NAME { FIELD: n }.
+    fn braced<T: Numbered>(
+        &mut self,
+        name: Given,
+        field: Given,
+        expected: Expected,
+    ) -> Result<T, Slip>
+        ensures { Reads (braced name field (numbered expected T.MOST T.meaning)) self.old result self.new }
     {
-        let token = self.token();
-        let n = match numeral_of(token.text, 255) {
-            Some(n) => n,
-            None => return Err(Slip {
-                expected: Expected::Register,
-                refusal: None,
-            }),
-        };
-        match Reg::from_u8(n as u8) {
-            Ok(value) => {
-                self.at = token.end;
-                Ok(value)
-            }
-            Err(fault) => Err(Slip {
-                expected: Expected::Register,
-                refusal: Some(fault),
-            }),
-        }
+        self.expect(&[name, Given::OpenBrace, field, Given::Colon])?;
+        let value = self.numbered(expected)?;
+        self.expect(&[Given::CloseBrace])?;
+        Ok(value)
     }
 
-    // The control register with the number that stands there.
-    fn control_number(&mut self) -> Result<CReg, Slip>
-        ensures { Reads (numbered AnyControl 255 (item RegisterFault controls)) self.old result self.new }
+    // The value with the number that stands there.
+    fn numbered<T: Numbered>(&mut self, expected: Expected) -> Result<T, Slip>
+        ensures { Reads (numbered expected T.MOST T.meaning) self.old result self.new }
     {
         let token = self.token();
-        let n = match numeral_of(token.text, 255) {
-            Some(n) => n,
-            None => return Err(Slip {
-                expected: Expected::Control,
-                refusal: None,
-            }),
+        let Some(n) = numeral_of(token.text, T::MOST) else {
+            return Err(Slip::new(expected));
         };
-        match CReg::from_u8(n as u8) {
+        match T::from_number(n) {
             Ok(value) => {
                 self.at = token.end;
                 Ok(value)
             }
             Err(fault) => Err(Slip {
-                expected: Expected::Control,
-                refusal: Some(fault),
-            }),
-        }
-    }
-
-    // The shift word with the number that stands there.
-    fn shift_word(&mut self) -> Result<RegShift, Slip>
-        ensures { Reads (numbered AnyShift 65535 shift_of) self.old result self.new }
-    {
-        let token = self.token();
-        let n = match numeral_of(token.text, 65535) {
-            Some(n) => n,
-            None => return Err(Slip {
-                expected: Expected::ShiftWord,
-                refusal: None,
-            }),
-        };
-        match RegShift::from_raw(n as u16) {
-            Ok(value) => {
-                self.at = token.end;
-                Ok(value)
-            }
-            Err(fault) => Err(Slip {
-                expected: Expected::ShiftWord,
+                expected,
                 refusal: Some(fault),
             }),
         }
@@ -258,10 +265,7 @@ impl<'a> Cursor<'a> {
                 self.at = token.end;
                 Ok((-i64::from(n)) as i32)
             }
-            _ => Err(Slip {
-                expected: Expected::Distance,
-                refusal: None,
-            }),
+            _ => Err(Slip::new(Expected::Distance)),
         }
     }
 

@@ -1,11 +1,11 @@
 -- Opcodes are read as they are written. Assumes nothing.
-use Rattle.std.proofs.Common.{◌≡◌, ℕ, ◌≤◌, ◌⊎◌, List, [], ◌∷◌, ◌++◌, map, Some, None, Ok, codes, decimal, Option, refl, ap, ◌∙◌, inl, inr, ⊎_elim, arith}
+use Rattle.std.proofs.Common.{◌≡◌, ℕ, ◌≤◌, ◌⊎◌, List, [], ◌∷◌, ◌++◌, map, Some, None, Ok, codes, decimal, Option, refl, ap, ◌∙◌, subst, inl, inr, ⊎_elim, arith}
 use Rattle.opcode.specs.declared.Opcode.{Opcode}
 use Rattle.opcode.specs.declared.Opcode.TheVariants.{Invalid, POP, PUSH, B, BL, BLX, BX, BXJ, AND, EOR, SUB, RSB, ADD, ADC, SBC, RSC, TST, TEQ, CMP, CMN, ORR, MOV, BIC, MVN, LSL, LSR, ASR, RRX, ROR, ADR, MSR, MRS, CLZ, LDREXH, STREXH, LDREXB, STREXB, LDREXD, STREXD, LDREX, STREX, LDM, STM, LDR, STR, LDRH, STRH, LDRB, STRB, LDRSH, LDRSHT, LDRSB, LDRSBT, STRD, LDRD, LDC, LDCL, LDC2, LDC2L, STC, STCL, STC2, STC2L, MCRR2, MCR2, MRRC2, MCRR, MRRC, MRC2, CDP2, SRS, RFE, LDRT, STRT, LDRHT, STRHT, LDRBT, STRBT, SWP, SWPB, MUL, MLA, UMAAL, MLS, UMULL, UMLAL, SMULL, SMUL, SMLA, SMLAL, SMLAL_halfword, SMAL, SMLAW, ERET, BKPT, HVC, SMC, MOVT, QDSUB, QDADD, QSUB, QADD, TBB, TBH, UDF, SVC, WFE, WFI, SEV, CSDB, YIELD, HINT, NOP, LEAVEX, ENTERX, CLREX, DSB, DMB, ISB, SXTH, UXTH, SXTB16, UXTB16, SXTB, UXTB, SXTAH, UXTAH, SXTAB16, UXTAB16, SXTAB, UXTAB, CBZ, CBNZ, SETEND, CPS, CPS_modeonly, REV, REV16, REVSH, IT, PKHTB, PKHBT, ORN, SSAT, SSAT16, SBFX, USAT, USAT16, UBFX, BFI, BFC, DBG, PLD, PLI, RBIT, SEL, SADD16, QADD16, SHADD16, SASX, QASX, SHASX, SSAX, QSAX, SHSAX, SSUB16, QSUB16, SHSUB16, SADD8, QADD8, SHADD8, SSUB8, QSUB8, SHSUB8, UADD16, UQADD16, UHADD16, UASX, UQASX, UHASX, USAX, UQSAX, UHSAX, USUB16, UQSUB16, UHSUB16, UADD8, UQADD8, UHADD8, USUB8, UQSUB8, UHSUB8, SMLSD, SMMLA, SMMLS, USADA8, USAD8, SMLAD, SMUSD, SMMUL, SMULW, SMUAD, SDIV, UDIV, SMLALD, SMLSLD}
 use Rattle.misreading.specs.declared.misread.Expected.TheVariants.{Opcode as an_opcode, Code as a_code}
 use Rattle.notation.specs.Notation.{a_flag, a_number, in_parentheses, AllHeld}
 use Rattle.notation.specs.Parsing.{Tokens, Table, then, taken, row, bracketed, pair, flag}
-use Rattle.notation.proofs.Faithful.{Faithful, then_ok, taken_ok, ok_pair, row_is, variant_sound, pair_faithful, bracketed_faithful}
+use Rattle.notation.proofs.Faithful.{Faithful, then_ok, taken_ok, ok_pair, row_is, alone_held, variant_sound, one_argument, two_arguments, three_arguments, four_arguments}
 use Rattle.notation.proofs.Leaves.{flag_faithful, number_faithful}
 use Rattle.opcode_notation.specs.declared.form.OneFlag.TheVariants.{Smlaw, Cps, Smulw, Smlald, Smlsld}
 use Rattle.opcode_notation.specs.declared.form.TwoFlags.TheVariants.{Srs, Rfe, Smul, Smla, SmlalHalfword, Smal}
@@ -21,23 +21,23 @@ use Rattle.opcode_notation.specs.Written.{opcode_variant, opcode_written}
 code_faithful : Faithful (λ n. n ≤ 255) (λ n. decimal n ∷ []) code
 code_faithful = number_faithful a_code 255 (omega arith)
 
-flag_argument : Faithful (λ _. Unit {0}) (λ x. in_parentheses (a_flag x ∷ [])) (bracketed flag)
-flag_argument = bracketed_faithful flag_faithful
+flag_argument : Faithful (λ x. AllHeld (a_flag x ∷ [])) (λ x. in_parentheses (a_flag x ∷ [])) (bracketed flag)
+flag_argument = one_argument (λ x. a_flag x) flag_faithful
 
-flag_arguments : Faithful (λ _. Unit {0} × Unit {0}) (λ x. in_parentheses (a_flag x.0 ∷ a_flag x.1 ∷ [])) (bracketed (pair flag flag))
-flag_arguments = bracketed_faithful (pair_faithful flag_faithful flag_faithful)
+flag_arguments : Faithful (λ x. AllHeld (a_flag x.0 ∷ a_flag x.1 ∷ [])) (λ x. in_parentheses (a_flag x.0 ∷ a_flag x.1 ∷ [])) (bracketed (pair flag flag))
+flag_arguments = two_arguments (λ x. a_flag x) (λ x. a_flag x) flag_faithful flag_faithful
 
-block_arguments : Faithful (λ _. (Unit {0} × Unit {0}) × (Unit {0} × Unit {0})) (λ x. in_parentheses (a_flag x.0.0 ∷ a_flag x.0.1 ∷ a_flag x.1.0 ∷ a_flag x.1.1 ∷ [])) (bracketed (pair (pair flag flag) (pair flag flag)))
-block_arguments = bracketed_faithful (pair_faithful (pair_faithful flag_faithful flag_faithful) (pair_faithful flag_faithful flag_faithful))
+block_arguments : Faithful (λ x. AllHeld (a_flag x.0.0 ∷ a_flag x.0.1 ∷ a_flag x.1.0 ∷ a_flag x.1.1 ∷ [])) (λ x. in_parentheses (a_flag x.0.0 ∷ a_flag x.0.1 ∷ a_flag x.1.0 ∷ a_flag x.1.1 ∷ [])) (bracketed (pair (pair flag flag) (pair flag flag)))
+block_arguments = four_arguments (λ x. a_flag x) (λ x. a_flag x) (λ x. a_flag x) (λ x. a_flag x) flag_faithful flag_faithful flag_faithful flag_faithful
 
-code_argument : Faithful (λ x. x ≤ 255) (λ x. in_parentheses (a_number 255 x ∷ [])) (bracketed code)
-code_argument = bracketed_faithful code_faithful
+code_argument : Faithful (λ x. AllHeld (a_number 255 x ∷ [])) (λ x. in_parentheses (a_number 255 x ∷ [])) (bracketed code)
+code_argument = one_argument (λ x. a_number 255 x) code_faithful
 
-two_codes : Faithful (λ x. (x.0 ≤ 255) × (x.1 ≤ 255)) (λ x. in_parentheses (a_number 255 x.0 ∷ a_number 255 x.1 ∷ [])) (bracketed (pair code code))
-two_codes = bracketed_faithful (pair_faithful code_faithful code_faithful)
+two_codes : Faithful (λ x. AllHeld (a_number 255 x.0 ∷ a_number 255 x.1 ∷ [])) (λ x. in_parentheses (a_number 255 x.0 ∷ a_number 255 x.1 ∷ [])) (bracketed (pair code code))
+two_codes = two_arguments (λ x. a_number 255 x) (λ x. a_number 255 x) code_faithful code_faithful
 
-three_codes : Faithful (λ x. ((x.0.0 ≤ 255) × (x.0.1 ≤ 255)) × (x.1 ≤ 255)) (λ x. in_parentheses (a_number 255 x.0.0 ∷ a_number 255 x.0.1 ∷ a_number 255 x.1 ∷ [])) (bracketed (pair (pair code code) code))
-three_codes = bracketed_faithful (pair_faithful (pair_faithful code_faithful code_faithful) code_faithful)
+three_codes : Faithful (λ x. AllHeld (a_number 255 x.0.0 ∷ a_number 255 x.0.1 ∷ a_number 255 x.1 ∷ [])) (λ x. in_parentheses (a_number 255 x.0.0 ∷ a_number 255 x.0.1 ∷ a_number 255 x.1 ∷ [])) (bracketed (pair (pair code code) code))
+three_codes = three_arguments (λ x. a_number 255 x) (λ x. a_number 255 x) (λ x. a_number 255 x) code_faithful code_faithful code_faithful
 
 form_word : Form → List ℕ
 form_word (Flag Smlaw) = codes "SMLAW"
@@ -69,38 +69,41 @@ form_word (Operation Mcr2) = codes "MCR2"
 form_word (Operation Mrc2) = codes "MRC2"
 form_word (Operation Cdp2) = codes "CDP2"
 
-form_sound : (f : Form) (ts : Tokens) (o : Opcode) (rest : Tokens) → opcode_with f ts ≡ Ok (o, rest) → form_word f ∷ ts ≡ opcode_written o ++ rest
-unfolding form_word
-form_sound (Flag Smlaw) = variant_sound opcode_written (λ x. SMLAW x) (codes "SMLAW") flag_argument (λ x. refl)
-form_sound (Flag Cps) = variant_sound opcode_written (λ x. CPS x) (codes "CPS") flag_argument (λ x. refl)
-form_sound (Flag Smulw) = variant_sound opcode_written (λ x. SMULW x) (codes "SMULW") flag_argument (λ x. refl)
-form_sound (Flag Smlald) = variant_sound opcode_written (λ x. SMLALD x) (codes "SMLALD") flag_argument (λ x. refl)
-form_sound (Flag Smlsld) = variant_sound opcode_written (λ x. SMLSLD x) (codes "SMLSLD") flag_argument (λ x. refl)
-form_sound (Flags Srs) = variant_sound opcode_written (λ x. SRS x.0 x.1) (codes "SRS") flag_arguments (λ x. refl)
-form_sound (Flags Rfe) = variant_sound opcode_written (λ x. RFE x.0 x.1) (codes "RFE") flag_arguments (λ x. refl)
-form_sound (Flags Smul) = variant_sound opcode_written (λ x. SMUL x.0 x.1) (codes "SMUL") flag_arguments (λ x. refl)
-form_sound (Flags Smla) = variant_sound opcode_written (λ x. SMLA x.0 x.1) (codes "SMLA") flag_arguments (λ x. refl)
-form_sound (Flags SmlalHalfword) = variant_sound opcode_written (λ x. SMLAL_halfword x.0 x.1) (codes "SMLAL_halfword") flag_arguments (λ x. refl)
-form_sound (Flags Smal) = variant_sound opcode_written (λ x. SMAL x.0 x.1) (codes "SMAL") flag_arguments (λ x. refl)
-form_sound (Block Ldm) = variant_sound opcode_written (λ x. LDM x.0.0 x.0.1 x.1.0 x.1.1) (codes "LDM") block_arguments (λ x. refl)
-form_sound (Block Stm) = variant_sound opcode_written (λ x. STM x.0.0 x.0.1 x.1.0 x.1.1) (codes "STM") block_arguments (λ x. refl)
-form_sound (Code Ldc) = variant_sound opcode_written (λ x. LDC x) (codes "LDC") code_argument (λ x. refl)
-form_sound (Code Ldcl) = variant_sound opcode_written (λ x. LDCL x) (codes "LDCL") code_argument (λ x. refl)
-form_sound (Code Ldc2) = variant_sound opcode_written (λ x. LDC2 x) (codes "LDC2") code_argument (λ x. refl)
-form_sound (Code Ldc2l) = variant_sound opcode_written (λ x. LDC2L x) (codes "LDC2L") code_argument (λ x. refl)
-form_sound (Code Stc) = variant_sound opcode_written (λ x. STC x) (codes "STC") code_argument (λ x. refl)
-form_sound (Code Stcl) = variant_sound opcode_written (λ x. STCL x) (codes "STCL") code_argument (λ x. refl)
-form_sound (Code Stc2) = variant_sound opcode_written (λ x. STC2 x) (codes "STC2") code_argument (λ x. refl)
-form_sound (Code Stc2l) = variant_sound opcode_written (λ x. STC2L x) (codes "STC2L") code_argument (λ x. refl)
-form_sound (Codes Mcrr2) = variant_sound opcode_written (λ x. MCRR2 x.0 x.1) (codes "MCRR2") two_codes (λ x. refl)
-form_sound (Codes Mrrc2) = variant_sound opcode_written (λ x. MRRC2 x.0 x.1) (codes "MRRC2") two_codes (λ x. refl)
-form_sound (Codes Mcrr) = variant_sound opcode_written (λ x. MCRR x.0 x.1) (codes "MCRR") two_codes (λ x. refl)
-form_sound (Codes Mrrc) = variant_sound opcode_written (λ x. MRRC x.0 x.1) (codes "MRRC") two_codes (λ x. refl)
-form_sound (Operation Mcr2) = variant_sound opcode_written (λ x. MCR2 x.0.0 x.0.1 x.1) (codes "MCR2") three_codes (λ x. refl)
-form_sound (Operation Mrc2) = variant_sound opcode_written (λ x. MRC2 x.0.0 x.0.1 x.1) (codes "MRC2") three_codes (λ x. refl)
-form_sound (Operation Cdp2) = variant_sound opcode_written (λ x. CDP2 x.0.0 x.0.1 x.1) (codes "CDP2") three_codes (λ x. refl)
+abbrev OpcodeHeld : Opcode → Type 0
+OpcodeHeld o = AllHeld (opcode_variant o).arguments
 
-opcode_complete : (o : Opcode) → AllHeld (opcode_variant o).arguments → (rest : Tokens) → opcode (opcode_written o ++ rest) ≡ Ok (o, rest)
+form_sound : (f : Form) (ts : Tokens) (o : Opcode) (rest : Tokens) → opcode_with f ts ≡ Ok (o, rest) → OpcodeHeld o × (form_word f ∷ ts ≡ opcode_written o ++ rest)
+unfolding form_word
+form_sound (Flag Smlaw) = variant_sound OpcodeHeld opcode_written (λ x. SMLAW x) (codes "SMLAW") flag_argument (λ x. refl)
+form_sound (Flag Cps) = variant_sound OpcodeHeld opcode_written (λ x. CPS x) (codes "CPS") flag_argument (λ x. refl)
+form_sound (Flag Smulw) = variant_sound OpcodeHeld opcode_written (λ x. SMULW x) (codes "SMULW") flag_argument (λ x. refl)
+form_sound (Flag Smlald) = variant_sound OpcodeHeld opcode_written (λ x. SMLALD x) (codes "SMLALD") flag_argument (λ x. refl)
+form_sound (Flag Smlsld) = variant_sound OpcodeHeld opcode_written (λ x. SMLSLD x) (codes "SMLSLD") flag_argument (λ x. refl)
+form_sound (Flags Srs) = variant_sound OpcodeHeld opcode_written (λ x. SRS x.0 x.1) (codes "SRS") flag_arguments (λ x. refl)
+form_sound (Flags Rfe) = variant_sound OpcodeHeld opcode_written (λ x. RFE x.0 x.1) (codes "RFE") flag_arguments (λ x. refl)
+form_sound (Flags Smul) = variant_sound OpcodeHeld opcode_written (λ x. SMUL x.0 x.1) (codes "SMUL") flag_arguments (λ x. refl)
+form_sound (Flags Smla) = variant_sound OpcodeHeld opcode_written (λ x. SMLA x.0 x.1) (codes "SMLA") flag_arguments (λ x. refl)
+form_sound (Flags SmlalHalfword) = variant_sound OpcodeHeld opcode_written (λ x. SMLAL_halfword x.0 x.1) (codes "SMLAL_halfword") flag_arguments (λ x. refl)
+form_sound (Flags Smal) = variant_sound OpcodeHeld opcode_written (λ x. SMAL x.0 x.1) (codes "SMAL") flag_arguments (λ x. refl)
+form_sound (Block Ldm) = variant_sound OpcodeHeld opcode_written (λ x. LDM x.0.0 x.0.1 x.1.0 x.1.1) (codes "LDM") block_arguments (λ x. refl)
+form_sound (Block Stm) = variant_sound OpcodeHeld opcode_written (λ x. STM x.0.0 x.0.1 x.1.0 x.1.1) (codes "STM") block_arguments (λ x. refl)
+form_sound (Code Ldc) = variant_sound OpcodeHeld opcode_written (λ x. LDC x) (codes "LDC") code_argument (λ x. refl)
+form_sound (Code Ldcl) = variant_sound OpcodeHeld opcode_written (λ x. LDCL x) (codes "LDCL") code_argument (λ x. refl)
+form_sound (Code Ldc2) = variant_sound OpcodeHeld opcode_written (λ x. LDC2 x) (codes "LDC2") code_argument (λ x. refl)
+form_sound (Code Ldc2l) = variant_sound OpcodeHeld opcode_written (λ x. LDC2L x) (codes "LDC2L") code_argument (λ x. refl)
+form_sound (Code Stc) = variant_sound OpcodeHeld opcode_written (λ x. STC x) (codes "STC") code_argument (λ x. refl)
+form_sound (Code Stcl) = variant_sound OpcodeHeld opcode_written (λ x. STCL x) (codes "STCL") code_argument (λ x. refl)
+form_sound (Code Stc2) = variant_sound OpcodeHeld opcode_written (λ x. STC2 x) (codes "STC2") code_argument (λ x. refl)
+form_sound (Code Stc2l) = variant_sound OpcodeHeld opcode_written (λ x. STC2L x) (codes "STC2L") code_argument (λ x. refl)
+form_sound (Codes Mcrr2) = variant_sound OpcodeHeld opcode_written (λ x. MCRR2 x.0 x.1) (codes "MCRR2") two_codes (λ x. refl)
+form_sound (Codes Mrrc2) = variant_sound OpcodeHeld opcode_written (λ x. MRRC2 x.0 x.1) (codes "MRRC2") two_codes (λ x. refl)
+form_sound (Codes Mcrr) = variant_sound OpcodeHeld opcode_written (λ x. MCRR x.0 x.1) (codes "MCRR") two_codes (λ x. refl)
+form_sound (Codes Mrrc) = variant_sound OpcodeHeld opcode_written (λ x. MRRC x.0 x.1) (codes "MRRC") two_codes (λ x. refl)
+form_sound (Operation Mcr2) = variant_sound OpcodeHeld opcode_written (λ x. MCR2 x.0.0 x.0.1 x.1) (codes "MCR2") three_codes (λ x. refl)
+form_sound (Operation Mrc2) = variant_sound OpcodeHeld opcode_written (λ x. MRC2 x.0.0 x.0.1 x.1) (codes "MRC2") three_codes (λ x. refl)
+form_sound (Operation Cdp2) = variant_sound OpcodeHeld opcode_written (λ x. CDP2 x.0.0 x.0.1 x.1) (codes "CDP2") three_codes (λ x. refl)
+
+opcode_complete : (o : Opcode) → OpcodeHeld o → (rest : Tokens) → opcode (opcode_written o ++ rest) ≡ Ok (o, rest)
 unfolding flow data_words memory multiply bits system parallel forms
 opcode_complete Invalid held rest = refl
 opcode_complete POP held rest = refl
@@ -143,8 +146,8 @@ opcode_complete LDREXD held rest = refl
 opcode_complete STREXD held rest = refl
 opcode_complete LDREX held rest = refl
 opcode_complete STREX held rest = refl
-opcode_complete (LDM a b c d) held rest = ap (λ o. then o (λ x. Ok (LDM x.0.0.0 x.0.0.1 x.0.1.0 x.0.1.1, x.1))) (block_arguments.complete ((a, b), (c, d)) ((tt, tt), (tt, tt)) rest)
-opcode_complete (STM a b c d) held rest = ap (λ o. then o (λ x. Ok (STM x.0.0.0 x.0.0.1 x.0.1.0 x.0.1.1, x.1))) (block_arguments.complete ((a, b), (c, d)) ((tt, tt), (tt, tt)) rest)
+opcode_complete (LDM a b c d) held rest = ap (λ o. then o (λ x. Ok (LDM x.0.0.0 x.0.0.1 x.0.1.0 x.0.1.1, x.1))) (block_arguments.complete ((a, b), (c, d)) held rest)
+opcode_complete (STM a b c d) held rest = ap (λ o. then o (λ x. Ok (STM x.0.0.0 x.0.0.1 x.0.1.0 x.0.1.1, x.1))) (block_arguments.complete ((a, b), (c, d)) held rest)
 opcode_complete LDR held rest = refl
 opcode_complete STR held rest = refl
 opcode_complete LDRH held rest = refl
@@ -157,23 +160,23 @@ opcode_complete LDRSB held rest = refl
 opcode_complete LDRSBT held rest = refl
 opcode_complete STRD held rest = refl
 opcode_complete LDRD held rest = refl
-opcode_complete (LDC a) held rest = ap (λ o. then o (λ x. Ok (LDC x.0, x.1))) (code_argument.complete a held.0 rest)
-opcode_complete (LDCL a) held rest = ap (λ o. then o (λ x. Ok (LDCL x.0, x.1))) (code_argument.complete a held.0 rest)
-opcode_complete (LDC2 a) held rest = ap (λ o. then o (λ x. Ok (LDC2 x.0, x.1))) (code_argument.complete a held.0 rest)
-opcode_complete (LDC2L a) held rest = ap (λ o. then o (λ x. Ok (LDC2L x.0, x.1))) (code_argument.complete a held.0 rest)
-opcode_complete (STC a) held rest = ap (λ o. then o (λ x. Ok (STC x.0, x.1))) (code_argument.complete a held.0 rest)
-opcode_complete (STCL a) held rest = ap (λ o. then o (λ x. Ok (STCL x.0, x.1))) (code_argument.complete a held.0 rest)
-opcode_complete (STC2 a) held rest = ap (λ o. then o (λ x. Ok (STC2 x.0, x.1))) (code_argument.complete a held.0 rest)
-opcode_complete (STC2L a) held rest = ap (λ o. then o (λ x. Ok (STC2L x.0, x.1))) (code_argument.complete a held.0 rest)
-opcode_complete (MCRR2 a b) held rest = ap (λ o. then o (λ x. Ok (MCRR2 x.0.0 x.0.1, x.1))) (two_codes.complete (a, b) (held.0, held.1.0) rest)
-opcode_complete (MCR2 a b c) held rest = ap (λ o. then o (λ x. Ok (MCR2 x.0.0.0 x.0.0.1 x.0.1, x.1))) (three_codes.complete ((a, b), c) ((held.0, held.1.0), held.1.1.0) rest)
-opcode_complete (MRRC2 a b) held rest = ap (λ o. then o (λ x. Ok (MRRC2 x.0.0 x.0.1, x.1))) (two_codes.complete (a, b) (held.0, held.1.0) rest)
-opcode_complete (MCRR a b) held rest = ap (λ o. then o (λ x. Ok (MCRR x.0.0 x.0.1, x.1))) (two_codes.complete (a, b) (held.0, held.1.0) rest)
-opcode_complete (MRRC a b) held rest = ap (λ o. then o (λ x. Ok (MRRC x.0.0 x.0.1, x.1))) (two_codes.complete (a, b) (held.0, held.1.0) rest)
-opcode_complete (MRC2 a b c) held rest = ap (λ o. then o (λ x. Ok (MRC2 x.0.0.0 x.0.0.1 x.0.1, x.1))) (three_codes.complete ((a, b), c) ((held.0, held.1.0), held.1.1.0) rest)
-opcode_complete (CDP2 a b c) held rest = ap (λ o. then o (λ x. Ok (CDP2 x.0.0.0 x.0.0.1 x.0.1, x.1))) (three_codes.complete ((a, b), c) ((held.0, held.1.0), held.1.1.0) rest)
-opcode_complete (SRS a b) held rest = ap (λ o. then o (λ x. Ok (SRS x.0.0 x.0.1, x.1))) (flag_arguments.complete (a, b) (tt, tt) rest)
-opcode_complete (RFE a b) held rest = ap (λ o. then o (λ x. Ok (RFE x.0.0 x.0.1, x.1))) (flag_arguments.complete (a, b) (tt, tt) rest)
+opcode_complete (LDC a) held rest = ap (λ o. then o (λ x. Ok (LDC x.0, x.1))) (code_argument.complete a held rest)
+opcode_complete (LDCL a) held rest = ap (λ o. then o (λ x. Ok (LDCL x.0, x.1))) (code_argument.complete a held rest)
+opcode_complete (LDC2 a) held rest = ap (λ o. then o (λ x. Ok (LDC2 x.0, x.1))) (code_argument.complete a held rest)
+opcode_complete (LDC2L a) held rest = ap (λ o. then o (λ x. Ok (LDC2L x.0, x.1))) (code_argument.complete a held rest)
+opcode_complete (STC a) held rest = ap (λ o. then o (λ x. Ok (STC x.0, x.1))) (code_argument.complete a held rest)
+opcode_complete (STCL a) held rest = ap (λ o. then o (λ x. Ok (STCL x.0, x.1))) (code_argument.complete a held rest)
+opcode_complete (STC2 a) held rest = ap (λ o. then o (λ x. Ok (STC2 x.0, x.1))) (code_argument.complete a held rest)
+opcode_complete (STC2L a) held rest = ap (λ o. then o (λ x. Ok (STC2L x.0, x.1))) (code_argument.complete a held rest)
+opcode_complete (MCRR2 a b) held rest = ap (λ o. then o (λ x. Ok (MCRR2 x.0.0 x.0.1, x.1))) (two_codes.complete (a, b) held rest)
+opcode_complete (MCR2 a b c) held rest = ap (λ o. then o (λ x. Ok (MCR2 x.0.0.0 x.0.0.1 x.0.1, x.1))) (three_codes.complete ((a, b), c) held rest)
+opcode_complete (MRRC2 a b) held rest = ap (λ o. then o (λ x. Ok (MRRC2 x.0.0 x.0.1, x.1))) (two_codes.complete (a, b) held rest)
+opcode_complete (MCRR a b) held rest = ap (λ o. then o (λ x. Ok (MCRR x.0.0 x.0.1, x.1))) (two_codes.complete (a, b) held rest)
+opcode_complete (MRRC a b) held rest = ap (λ o. then o (λ x. Ok (MRRC x.0.0 x.0.1, x.1))) (two_codes.complete (a, b) held rest)
+opcode_complete (MRC2 a b c) held rest = ap (λ o. then o (λ x. Ok (MRC2 x.0.0.0 x.0.0.1 x.0.1, x.1))) (three_codes.complete ((a, b), c) held rest)
+opcode_complete (CDP2 a b c) held rest = ap (λ o. then o (λ x. Ok (CDP2 x.0.0.0 x.0.0.1 x.0.1, x.1))) (three_codes.complete ((a, b), c) held rest)
+opcode_complete (SRS a b) held rest = ap (λ o. then o (λ x. Ok (SRS x.0.0 x.0.1, x.1))) (flag_arguments.complete (a, b) held rest)
+opcode_complete (RFE a b) held rest = ap (λ o. then o (λ x. Ok (RFE x.0.0 x.0.1, x.1))) (flag_arguments.complete (a, b) held rest)
 opcode_complete LDRT held rest = refl
 opcode_complete STRT held rest = refl
 opcode_complete LDRHT held rest = refl
@@ -189,12 +192,12 @@ opcode_complete MLS held rest = refl
 opcode_complete UMULL held rest = refl
 opcode_complete UMLAL held rest = refl
 opcode_complete SMULL held rest = refl
-opcode_complete (SMUL a b) held rest = ap (λ o. then o (λ x. Ok (SMUL x.0.0 x.0.1, x.1))) (flag_arguments.complete (a, b) (tt, tt) rest)
-opcode_complete (SMLA a b) held rest = ap (λ o. then o (λ x. Ok (SMLA x.0.0 x.0.1, x.1))) (flag_arguments.complete (a, b) (tt, tt) rest)
+opcode_complete (SMUL a b) held rest = ap (λ o. then o (λ x. Ok (SMUL x.0.0 x.0.1, x.1))) (flag_arguments.complete (a, b) held rest)
+opcode_complete (SMLA a b) held rest = ap (λ o. then o (λ x. Ok (SMLA x.0.0 x.0.1, x.1))) (flag_arguments.complete (a, b) held rest)
 opcode_complete SMLAL held rest = refl
-opcode_complete (SMLAL_halfword a b) held rest = ap (λ o. then o (λ x. Ok (SMLAL_halfword x.0.0 x.0.1, x.1))) (flag_arguments.complete (a, b) (tt, tt) rest)
-opcode_complete (SMAL a b) held rest = ap (λ o. then o (λ x. Ok (SMAL x.0.0 x.0.1, x.1))) (flag_arguments.complete (a, b) (tt, tt) rest)
-opcode_complete (SMLAW a) held rest = ap (λ o. then o (λ x. Ok (SMLAW x.0, x.1))) (flag_argument.complete a tt rest)
+opcode_complete (SMLAL_halfword a b) held rest = ap (λ o. then o (λ x. Ok (SMLAL_halfword x.0.0 x.0.1, x.1))) (flag_arguments.complete (a, b) held rest)
+opcode_complete (SMAL a b) held rest = ap (λ o. then o (λ x. Ok (SMAL x.0.0 x.0.1, x.1))) (flag_arguments.complete (a, b) held rest)
+opcode_complete (SMLAW a) held rest = ap (λ o. then o (λ x. Ok (SMLAW x.0, x.1))) (flag_argument.complete a held rest)
 opcode_complete ERET held rest = refl
 opcode_complete BKPT held rest = refl
 opcode_complete HVC held rest = refl
@@ -236,7 +239,7 @@ opcode_complete UXTAB held rest = refl
 opcode_complete CBZ held rest = refl
 opcode_complete CBNZ held rest = refl
 opcode_complete SETEND held rest = refl
-opcode_complete (CPS a) held rest = ap (λ o. then o (λ x. Ok (CPS x.0, x.1))) (flag_argument.complete a tt rest)
+opcode_complete (CPS a) held rest = ap (λ o. then o (λ x. Ok (CPS x.0, x.1))) (flag_argument.complete a held rest)
 opcode_complete CPS_modeonly held rest = refl
 opcode_complete REV held rest = refl
 opcode_complete REV16 held rest = refl
@@ -302,12 +305,12 @@ opcode_complete USAD8 held rest = refl
 opcode_complete SMLAD held rest = refl
 opcode_complete SMUSD held rest = refl
 opcode_complete SMMUL held rest = refl
-opcode_complete (SMULW a) held rest = ap (λ o. then o (λ x. Ok (SMULW x.0, x.1))) (flag_argument.complete a tt rest)
+opcode_complete (SMULW a) held rest = ap (λ o. then o (λ x. Ok (SMULW x.0, x.1))) (flag_argument.complete a held rest)
 opcode_complete SMUAD held rest = refl
 opcode_complete SDIV held rest = refl
 opcode_complete UDIV held rest = refl
-opcode_complete (SMLALD a) held rest = ap (λ o. then o (λ x. Ok (SMLALD x.0, x.1))) (flag_argument.complete a tt rest)
-opcode_complete (SMLSLD a) held rest = ap (λ o. then o (λ x. Ok (SMLSLD x.0, x.1))) (flag_argument.complete a tt rest)
+opcode_complete (SMLALD a) held rest = ap (λ o. then o (λ x. Ok (SMLALD x.0, x.1))) (flag_argument.complete a held rest)
+opcode_complete (SMLSLD a) held rest = ap (λ o. then o (λ x. Ok (SMLSLD x.0, x.1))) (flag_argument.complete a held rest)
 
 or_else_some : {X : Type 0} (o p : Option X) (x : X) → or_else o p ≡ Some x → (o ≡ Some x) ⊎ (p ≡ Some x)
 or_else_some None p x e = inr e
@@ -339,18 +342,21 @@ no_token : (o : Opcode) (rest : Tokens) → opcode [] ≡ Ok (o, rest) → ⊥
 unfolding flow data_words memory multiply bits system parallel forms
 no_token o rest e = let z : ◌≡◌ {A = ℕ} 0 1 = cc in omega arith
 
-told_sound : (t : List ℕ) (us : Tokens) (o : Opcode) (rest : Tokens) → then (taken an_opcode (row forms t) (t ∷ us)) (λ f. opcode_with f.0 f.1) ≡ Ok (o, rest) → t ∷ us ≡ opcode_written o ++ rest
+told_sound : (t : List ℕ) (us : Tokens) (o : Opcode) (rest : Tokens) → then (taken an_opcode (row forms t) (t ∷ us)) (λ f. opcode_with f.0 f.1) ≡ Ok (o, rest) → OpcodeHeld o × (t ∷ us ≡ opcode_written o ++ rest)
 told_sound t us o rest e =
     let one = then_ok (taken an_opcode (row forms t) (t ∷ us)) (λ f. opcode_with f.0 f.1) (o, rest) e in
     let is = taken_ok an_opcode (row forms t) (t ∷ us) one.0.0 one.0.1 one.1.0 in
-    ap (λ w. w ∷ us) (form_is t one.0.0 is.0)
-    ∙ form_sound one.0.0 us o rest (ap (opcode_with one.0.0) is.1 ∙ one.1.1)
+    let part = form_sound one.0.0 us o rest (ap (opcode_with one.0.0) is.1 ∙ one.1.1) in
+    (part.0, ap (λ w. w ∷ us) (form_is t one.0.0 is.0) ∙ part.1)
 
-opcode_sound : (ts : Tokens) (o : Opcode) (rest : Tokens) → opcode ts ≡ Ok (o, rest) → ts ≡ opcode_written o ++ rest
+opcode_sound : (ts : Tokens) (o : Opcode) (rest : Tokens) → opcode ts ≡ Ok (o, rest) → OpcodeHeld o × (ts ≡ opcode_written o ++ rest)
 opcode_sound [] o rest e = absurd (no_token o rest e)
 opcode_sound (t ∷ us) o rest e =
     ⊎_elim
-    (λ p. let last = ok_pair p.0 o us rest p.1.1 in ap (λ l. l ++ us) (plain_sound t p.0 p.1.0) ∙ ap (λ y. opcode_written y ++ us) last.0 ∙ ap (λ l. opcode_written o ++ l) last.1)
+    (λ p.
+      let last = ok_pair p.0 o us rest p.1.1 in
+      let is = plain_sound t p.0 p.1.0 in
+      (subst OpcodeHeld last.0 (alone_held t (opcode_variant p.0) is), ap (λ l. l ++ us) is ∙ ap (λ y. opcode_written y ++ us) last.0 ∙ ap (λ l. opcode_written o ++ l) last.1))
     (told_sound t us o rest)
     (either_ok (plain t) (λ o. Ok (o, us)) _ (Ok (o, rest)) e)
 

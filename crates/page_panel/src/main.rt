@@ -4,11 +4,9 @@
 mod account;
 mod calls;
 mod colour;
-mod message;
 mod options;
 mod printed;
 mod spelling;
-mod transfer;
 
 use account::Account;
 use anyhow::anyhow;
@@ -60,14 +58,9 @@ fn run(rt: &HostRuntime) -> anyhow::Result<()> {
     }
     let heap = rt.alloc();
     let record = record_of(rt, &options)?;
-    let mut calls = calls::of(heap, record.as_slice())?;
-    let page = printed::on_page(
-        heap,
-        options.room,
-        options.marks,
-        calls.entries.as_mut_slice(),
-    )?;
-    let lines = account::lines(heap, &calls, &page, &options)?;
+    let calls = calls::of(heap, record.as_slice())?;
+    let page = printed::on_page(heap, calls.numbered.as_slice(), &options)?;
+    let lines = account::lines(heap, &page, &options)?;
     let account = account::of(heap, &calls, &page, &options)?;
     show(rt, &options, lines.as_str(), &account)?;
     rt.eprint(calls.messages.as_str())?;

@@ -1,5 +1,6 @@
 // The page of a record: every call is made on it, and it is closed.
-use crate::message::push_bytes;
+use crate::calls::Numbered;
+use crate::options::Options;
 use armv7::{Call, Instruction};
 use display::visit_inst;
 use measure::measure;
@@ -7,12 +8,15 @@ use page::Entry;
 use runs::run;
 use sink::{Edge, Mark, MarkSink, Span};
 use std::alloc::{AllocError, Global};
+use wording::Characters;
 
 #[derive(Drop)]
 pub struct Printed {
     pub text: String,
     pub marks: Vec<Mark>,
     pub count: u64,
+    // Each call, with the page's answer.
+    pub entries: Vec<Entry>,
 }
 
 // The longest line has 285 bytes, and 130 marks.
@@ -29,10 +33,9 @@ const NO_MARK: Mark = Mark {
 // How many bytes a call takes of a page that has room for it.
 fn bytes_of(call: &Call) -> usize {
     match call {
-        Call::Print(instruction) => match measure(instruction) {
-            Ok(size) => size.saturating_add(1),
-            Err(_) => 0,
-        },
+        Call::Print(instruction) => {
+            measure(instruction).map_or(0, |size| size.saturating_add(1))
+        }
         Call::Gap => 1,
     }
 }
@@ -54,49 +57,48 @@ fn marks_of(call: &Call) -> usize {
 }
 
 // The room that all calls take together.
-fn room_for(entries: &[Entry]) -> usize {
-    let mut room: usize = 0;
-    for entry in entries {
-        room = room.saturating_add(bytes_of(&entry.call));
-    }
-    room
+fn room_for<F: Fn(&Call) -> usize>(calls: &[Numbered], of: F) -> usize
+    requires { (f : _) (call : _) → F.pre f call }
+{
+    calls
+        .iter()
+        .map(|numbered| of(&numbered.call))
+        .fold(0, usize::saturating_add)
 }
 
-fn mark_room_for(entries: &[Entry]) -> usize {
-    let mut room: usize = 0;
-    for entry in entries {
-        room = room.saturating_add(marks_of(&entry.call));
-    }
-    room
-}
-
-// Makes every call on a page with this room, or with room for all of them.
+// Makes every call on a page with the room that was asked for, or with room for all of them.
 pub(crate) fn on_page(
     heap: Global,
-    room: Option<usize>,
-    marks: bool,
-    entries: &mut [Entry],
+    calls: &[Numbered],
+    options: &Options,
 ) -> Result<Printed, AllocError> {
-    let bytes = match room {
-        Some(room) => room,
-        None => room_for(entries),
+    let bytes = options.room.unwrap_or_else(|| room_for(calls, bytes_of));
+    let edges = if options.marks {
+        room_for(calls, marks_of)
+    } else {
+        0
     };
-    let edges = if marks { mark_room_for(entries) } else { 0 };
+    let mut entries: Vec<Entry> = calls
+        .iter()
+        .map(|numbered| Entry {
+            call: numbered.call,
+            answer: Ok(0),
+        })
+        .collect(heap)?;
     let mut memory = vec![in heap; 0u8; bytes]?;
-    let mut row = vec![in heap; NO_MARK; edges]?;
+    let mut marks = vec![in heap; NO_MARK; edges]?;
     let closed = run(
-        MarkSink::new(memory.as_mut_slice(), row.as_mut_slice()),
-        entries,
+        MarkSink::new(memory.as_mut_slice(), marks.as_mut_slice()),
+        entries.as_mut_slice(),
     );
     let count = closed.count();
     let (len, kept) = closed.end().end();
     memory.truncate(len);
-    row.truncate(kept);
-    let mut text = String::new(heap);
-    push_bytes(&mut text, memory.as_slice())?;
+    marks.truncate(kept);
     Ok(Printed {
-        text,
-        marks: row,
+        text: Characters(memory.as_slice()).to_string(heap)?,
+        marks,
         count,
+        entries,
     })
 }

@@ -1,9 +1,10 @@
 // The manual's spelling of an instruction.
-use crate::message::push_bytes;
 use armv7::Instruction;
 use manual::visit_manual;
 use sink::TextSink;
 use std::alloc::AllocError;
+use std::fmt::Write;
+use wording::Characters;
 
 // The longest manual line is shorter.
 const LINE: usize = 512;
@@ -15,10 +16,7 @@ pub(crate) fn push_manual(text: &mut String, instruction: &Instruction) -> Resul
     let answer = visit_manual(instruction, &mut out);
     let end = out.end();
     match answer {
-        Ok(()) => {
-            text.push_str("  manual: ")?;
-            push_bytes(text, &memory[0..end.min(LINE)])
-        }
+        Ok(()) => write!(text, "  manual: {}", Characters(&memory[..end.min(LINE)])),
         Err(_) => Ok(()),
     }
 }

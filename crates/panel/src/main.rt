@@ -2,9 +2,7 @@
 #![tactic(auto)]
 
 mod account;
-mod message;
 mod options;
-mod transfer;
 
 use account::Account;
 use anyhow::anyhow;
@@ -48,7 +46,7 @@ fn run(rt: &HostRuntime) -> anyhow::Result<()> {
     let record = record_of(rt, &options)?;
     let account = account::of(rt.alloc(), record.as_str())?;
     show(rt, &options, &account)?;
-    if account.misread > 0 {
+    if account.totals.misread > 0 {
         return Err(anyhow!("a line of the record could not be read"));
     }
     Ok(())

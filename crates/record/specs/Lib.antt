@@ -1,14 +1,2 @@
-pub mod Calls
-pub mod Givens
-pub mod Instructions
 pub mod Law
 pub mod Messages
-pub mod Notation
-pub mod Opcodes
-pub mod Operands
-pub mod Parsing
-pub mod Parts
-pub mod Places
-pub mod Reads
-pub mod Tokens
-pub mod Written

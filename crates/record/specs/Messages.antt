@@ -1,38 +1,8 @@
 -- What is said of a line that cannot be read. Assumes nothing.
-use Rattle.std.specs.Prelude.{ℕ, List, [], ◌∷◌, ◌++◌, Some, None, codes, decimal, Option}
-use Rattle.armv7.specs.Faults.{refusal, fault_word}
-use Rattle.armv7.specs.declared.fault.Fault.{Fault}
-use Rattle.record.specs.declared.misread.Expected.{Expected}
-use Rattle.record.specs.declared.misread.Expected.TheVariants.{Call, Given as Token, Condition, Opcode, Operand, Bank, Mask, Flag, Code, Halfword, Word, Distance, Register, Control, ShiftWord}
-use Rattle.record.specs.declared.misread.Misread.{Misread}
-use Rattle.record.specs.Givens.{text_of}
+use Rattle.std.specs.Prelude.{ℕ, List}
+use Rattle.misreading.specs.declared.misread.Misread.{Misread}
+use Rattle.misreading.specs.Messages.{or_at_end, message_with}
 
--- a token, or that there is none
-abbrev pub or_at_end : List ℕ → List ℕ
-or_at_end [] = codes "the end of the line"
-or_at_end (b ∷ bs) = b ∷ bs
-
-abbrev pub expected_text : Expected → List ℕ
-expected_text Call = codes "gap or Instruction"
-expected_text (Token g) = or_at_end (text_of g)
-expected_text Condition = codes "a condition"
-expected_text Opcode = codes "an opcode"
-expected_text Operand = codes "an operand"
-expected_text Bank = codes "a register bank"
-expected_text Mask = codes "a status register mask"
-expected_text Flag = codes "true or false"
-expected_text Code = codes "a number from 0 to 255"
-expected_text Halfword = codes "a number from 0 to 65535"
-expected_text Word = codes "a number from 0 to 4294967295"
-expected_text Distance = codes "a number from -2147483648 to 2147483647"
-expected_text Register = codes "a register number from 0 to 15"
-expected_text Control = codes "a control register number from 0 to 15"
-expected_text ShiftWord = codes "a shift word"
-
-abbrev pub refusal_text : Option Fault → List ℕ
-refusal_text None = []
-refusal_text (Some f) = codes " (refusal " ++ (decimal (refusal f).number ++ (codes ": " ++ (fault_word f ++ codes ")")))
-
+-- what was found is shown as it stands
 abbrev pub message_of : ℕ → Misread → List ℕ
-message_of line m =
-    codes "line " ++ (decimal line ++ (codes ", column " ++ (decimal m.column ++ (codes ": " ++ (expected_text m.expected ++ (codes " was expected, found " ++ (or_at_end m.found.now ++ refusal_text m.refusal)))))))
+message_of line m = message_with line m (or_at_end m.found.now)

@@ -1,73 +1,13 @@
 // The message on a line that cannot be read.
-ghost use Rattle.std.specs.Prelude.{◌≡◌, ◌++◌, IfOk, OnOk};
-ghost use Rattle.record.specs.Messages.{or_at_end, expected_text, refusal_text, message_of};
+ghost use Rattle.std.specs.Prelude.{◌≡◌, IfOk};
+ghost use Rattle.record.specs.Messages.{message_of};
 
-use crate::misread::{Expected, Misread};
-use armv7::Fault;
+use misreading::{Misread, message_showing, or_end};
 use std::alloc::{AllocError, Global};
-
-// A token, or that the line ends there.
-fn shown(text: &[u8]) -> &[u8]
-    ensures { result.now ≡ or_at_end text.now }
-{
-    if text.is_empty() {
-        b"the end of the line"
-    } else {
-        text
-    }
-}
-
-impl Expected {
-    // In words.
-    pub fn text(&self) -> &'static [u8]
-        ensures { result.now ≡ expected_text self.now }
-    {
-        match *self {
-            Expected::Call => b"gap or Instruction",
-            Expected::Given(token) => shown(token.text()),
-            Expected::Condition => b"a condition",
-            Expected::Opcode => b"an opcode",
-            Expected::Operand => b"an operand",
-            Expected::Bank => b"a register bank",
-            Expected::Mask => b"a status register mask",
-            Expected::Flag => b"true or false",
-            Expected::Code => b"a number from 0 to 255",
-            Expected::Halfword => b"a number from 0 to 65535",
-            Expected::Word => b"a number from 0 to 4294967295",
-            Expected::Distance => b"a number from -2147483648 to 2147483647",
-            Expected::Register => b"a register number from 0 to 15",
-            Expected::Control => b"a control register number from 0 to 15",
-            Expected::ShiftWord => b"a shift word",
-        }
-    }
-}
 
 // What is said of the line with this number: where it cannot be read, what was expected there and what was found.
 pub fn message(heap: Global, line: u64, misread: &Misread<'_>) -> Result<Vec<u8>, AllocError>
-    ensures { IfOk result (λ v. v.items ≡ message_of line misread.now) }
+    ensures text { IfOk result (λ v. v.items ≡ message_of line misread.now) }
 {
-    let column = misread.column;
-    let place = format!(in heap; "line {line}, column {column}: ")?;
-    let mut text = Vec::from_slice(heap, place.as_bytes())?;
-    text.extend_from_slice(misread.expected.text())?;
-    text.extend_from_slice(b" was expected, found ")?;
-    text.extend_from_slice(shown(misread.found))?;
-    add_refusal(heap, &mut text, misread.refusal)?;
-    Ok(text)
-}
-
-// Says why a number was refused, where one was.
-fn add_refusal(heap: Global, text: &mut Vec<u8>, refusal: Option<Fault>) -> Result<(), AllocError>
-    ensures { OnOk result (text.new.items ≡ text.old.items ++ refusal_text refusal) }
-{
-    let fault = match refusal {
-        None => return Ok(()),
-        Some(fault) => fault,
-    };
-    let number = fault.number();
-    let opening = format!(in heap; " (refusal {number}: ")?;
-    text.extend_from_slice(opening.as_bytes())?;
-    text.extend_from_slice(fault.word())?;
-    text.extend_from_slice(b")")?;
-    Ok(())
+    message_showing(heap, line, misread, or_end(misread.found))
 }

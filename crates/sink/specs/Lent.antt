@@ -1,5 +1,5 @@
 -- Lent memory: what a sink on it holds, and what of it stays. Assumes nothing.
-use Rattle.std.specs.Prelude.{◌≡◌, ℕ, ◌+◌, ◌-◌, ◌^◌, ◌<◌, ◌≤◌, min, List, ◌++◌, length, take, drop, refl}
+use Rattle.std.specs.Prelude.{◌≡◌, ℕ, ◌+◌, ◌-◌, ◌^◌, ◌<◌, ◌≤◌, min, List, length, take, drop, refl}
 use Rattle.std.proofs.Common.{⊎_elim, sym, ap, ◌∙◌, arith, length-take, drop-drop}
 use Rattle.std.proofs.lemmas.Bool.{cases_lt}
 use Rattle.std.proofs.lemmas.List.{drop_all}
@@ -7,10 +7,6 @@ use Rattle.std.proofs.lemmas.List.{drop_all}
 -- lent elements, of which there are always fewer than 2 to the 64
 abbrev pub lent : {A : Type 0} → List A → List A
 lent xs = take (2 ^ 64 - 1) xs
-
--- memory in which ys replaced what stood from place n on
-abbrev pub spliced : {A : Type 0} → ℕ → List A → List A → List A
-spliced n xs ys = take n xs ++ (ys ++ drop (n + length ys) xs)
 
 -- memory whose first n elements are in use comes to have its first k in use: the others stay as they were
 pub record Filled {A : Type 0} (xs : List A) (n : ℕ) (ys : List A) (k : ℕ) : Type 0 where

@@ -1,28 +1,56 @@
-// Writing to lent memory of which a part is in use.
-ghost use Rattle.std.specs.Prelude.{◌≡◌, ◌-◌, ◌^◌, ◌<◌, ◌≤◌, min, length, take};
-ghost use Rattle.sink.specs.Lent.{spliced};
+// Lent memory of which a part is in use.
+// Kept: the memory and its count are two parameters. In a struct of their own inside a sink, a sink that is passed by value, as
+// `end` takes it, was outside of what can be proved.
+ghost use Rattle.std.specs.Prelude.{◌≡◌, ◌+◌, ◌-◌, ◌≤◌, min, cond, [], ◌∷◌, ◌++◌, length, take, nat_lt};
+ghost use Rattle.sink.specs.Lent.{Filled};
 ghost use Rattle.sink.specs.Outcome.{outcome, full_below};
 
 use armv7::Fault;
 
-// Copies behind the first `used` elements as much of the piece as fits, and answers how many elements that is.
-pub(crate) fn append<T: Copy>(memory: &mut [T], used: usize, piece: &[T]) -> usize
-    requires { used ≤ length memory.old }
-    ensures bits { length memory.old < 2 ^ 64 }
-    ensures value { result ≡ min (length piece.now) (length memory.old - used) }
-    ensures after { memory.new ≡ spliced used memory.old (take result piece.now) }
+// Puts a piece that there is room for behind the first `used` elements, and counts it to them.
+fn place<T: Copy>(memory: &mut [T], used: &mut usize, piece: &[T])
+    requires { used.old + length piece.now ≤ length memory.old }
+    ensures count { used.new ≡ used.old + length piece.now }
+    ensures size { length memory.new ≡ length memory.old }
+    ensures text { take used.new memory.new ≡ take used.old memory.old ++ piece.now }
+    ensures rest { Filled memory.old used.old memory.new used.new }
 {
-    let count = piece.len().min(memory.len() - used);
-    memory[used..used + count].copy_from_slice(&piece[0..count]);
-    count
+    let end = *used + piece.len();
+    memory[*used..end].copy_from_slice(piece);
+    *used = end;
 }
 
-// Whether all of the piece is among the first `count` bytes of it.
-pub(crate) fn told(count: usize, piece: &[u8]) -> Result<(), Fault>
-    ensures { outcome result ≡ full_below count (length piece.now) }
+// Puts as much of the piece as there is room for behind the first `used` elements, counts it to them, and refuses a piece that is
+// longer.
+pub(crate) fn append<T: Copy>(memory: &mut [T], used: &mut usize, piece: &[T]) -> Result<(), Fault>
+    requires { used.old ≤ length memory.old }
+    ensures count { used.new ≡ min (used.old + length piece.now) (length memory.old) }
+    ensures size { length memory.new ≡ length memory.old }
+    ensures text { take used.new memory.new ≡ take used.old memory.old ++ take (length memory.old - used.old) piece.now }
+    ensures rest { Filled memory.old used.old memory.new used.new }
+    ensures answer { outcome result ≡ full_below (length memory.old - used.old) (length piece.now) }
 {
-    if count < piece.len() {
+    let left = memory.len() - *used;
+    if piece.len() > left {
+        place(memory, used, &piece[..left]);
         return Err(Fault::SinkFull);
     }
+    place(memory, used, piece);
+    Ok(())
+}
+
+// Puts one element more behind the first `used`, and counts it to them, or refuses it where there is no room for it.
+pub fn push<T: Copy>(memory: &mut [T], used: &mut usize, item: T) -> Result<(), Fault>
+    ensures count { used.new ≡ cond (nat_lt used.old (length memory.old)) (used.old + 1) used.old }
+    ensures size { length memory.new ≡ length memory.old }
+    ensures text { take used.new memory.new ≡ take used.old memory.old ++ take (length memory.old - used.old) (item ∷ []) }
+    ensures rest { Filled memory.old used.old memory.new used.new }
+    ensures answer { outcome result ≡ full_below (length memory.old - used.old) 1 }
+{
+    if *used >= memory.len() {
+        return Err(Fault::SinkFull);
+    }
+    memory[*used] = item;
+    *used += 1;
     Ok(())
 }

@@ -1,7 +1,7 @@
 // Sinks: what a printer writes bytes and span edges to, by what they hold, and those on lent memory.
 #![tactic(auto)]
 
-mod lent;
+pub mod lent;
 pub mod marking;
 pub mod sink;
 pub mod text;
@@ -48,6 +48,6 @@ mod tests {
         assert_eq!(rt; fill(&mut out), (true, 0));
         assert_eq!(rt; out.end(), (8, 3));
         assert_eq!(rt; row[1].at, 3);
-        assert!(rt; matches!(row[2].edge, Edge::Start) && matches!(row[2].span, Span::Register));
+        assert!(rt; (row[2].edge, row[2].span) == (Edge::Start, Span::Register));
     }
 }

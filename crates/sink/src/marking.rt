@@ -1,9 +1,8 @@
 // A sink that holds text in lent bytes, and marks in a lent row.
-ghost use Rattle.std.specs.Prelude.{◌≡◌, length, take};
+ghost use Rattle.std.specs.Prelude.{◌≡◌, ◌≤◌, length, take};
 ghost use Rattle.sink.specs.Meaning.{with_room, marked};
-ghost use Rattle.sink.specs.MarkSinks.{mark_meaning, MarkKept, mark_laws};
 
-use crate::lent::{append, told};
+use crate::lent::{append, push};
 use crate::sink::{DisplaySink, Edge, Mark, RoomSink, Span};
 use armv7::Fault;
 
@@ -12,11 +11,15 @@ use armv7::Fault;
 pub struct MarkSink<'a> {
     buf: &'a mut [u8],
     len: usize,
+    ghost within: { len ≤ length buf.now },
     row: &'a mut [Mark],
     count: usize,
+    ghost row_within: { count ≤ length row.now },
 }
 
 impl<'a> MarkSink<'a> {
+    ghost use Rattle.sink.specs.MarkSinks.{mark_meaning, MarkKept};
+
     // A sink with no text and no marks yet, with as much room as there are bytes, and for as many marks as the row is long.
     pub fn new(buf: &'a mut [u8], row: &'a mut [Mark]) -> MarkSink<'a>
         ensures empty { mark_meaning result ≡ with_room (length buf.old) (length row.old) }
@@ -39,13 +42,7 @@ impl<'a> MarkSink<'a> {
         ensures marks { take result.1 self.entry.row.now ≡ (mark_meaning self.entry).marks }
         ensures value { (result.0 ≡ length (mark_meaning self.entry).text) × (result.1 ≡ length (mark_meaning self.entry).marks) }
     {
-        let MarkSink {
-            buf,
-            len,
-            row,
-            count,
-        } = self;
-        (len.min(buf.len()), count.min(row.len()))
+        (self.len, self.count)
     }
 
     // One mark more at the end of the text, where the row has a place for it.
@@ -53,14 +50,14 @@ impl<'a> MarkSink<'a> {
         ensures after { mark_meaning self.new ≡ marked edge span (mark_meaning self.old) }
         ensures rest { MarkKept self.old self.new }
     {
-        let at = self.len.min(self.buf.len());
-        let used = self.count.min(self.row.len());
-        let mark = [Mark { edge, span, at }];
-        self.count = used + append(self.row, used, &mark);
+        let at = self.len;
+        let _ = push(self.row, &mut self.count, Mark { edge, span, at });
     }
 }
 
 impl DisplaySink for MarkSink<'_> {
+    ghost use Rattle.sink.specs.MarkSinks.{mark_meaning, MarkKept, mark_laws};
+
     ghost meaning = { mark_meaning };
 
     ghost kept = { MarkKept };
@@ -68,10 +65,7 @@ impl DisplaySink for MarkSink<'_> {
     ghost laws = { mark_laws };
 
     fn write(&mut self, piece: &[u8]) -> Result<(), Fault> {
-        let used = self.len.min(self.buf.len());
-        let count = append(self.buf, used, piece);
-        self.len = used + count;
-        told(count, piece)
+        append(self.buf, &mut self.len, piece)
     }
 
     fn span_start_opcode(&mut self) {
@@ -93,6 +87,6 @@ impl DisplaySink for MarkSink<'_> {
 
 impl RoomSink for MarkSink<'_> {
     fn room(&self) -> usize {
-        self.buf.len() - self.len.min(self.buf.len())
+        self.buf.len() - self.len
     }
 }

@@ -8,21 +8,21 @@ ghost use Rattle.sink.specs.Outcome.{outcome, full_below};
 use armv7::Fault;
 
 // An end of a span of text.
-#[derive(Clone, Copy)]
+#[derive(Clone, Copy, PartialEq, Eq)]
 pub enum Edge {
     Start,
     End,
 }
 
 // What a span of text stands for.
-#[derive(Clone, Copy)]
+#[derive(Clone, Copy, PartialEq, Eq)]
 pub enum Span {
     Opcode,
     Register,
 }
 
 // An edge, with the length of the text where it falls.
-#[derive(Clone, Copy)]
+#[derive(Clone, Copy, PartialEq, Eq)]
 pub struct Mark {
     pub edge: Edge,
     pub span: Span,

@@ -1,9 +1,8 @@
 // A sink that holds text in lent bytes, and no marks.
-ghost use Rattle.std.specs.Prelude.{◌≡◌, length, take};
+ghost use Rattle.std.specs.Prelude.{◌≡◌, ◌≤◌, length, take};
 ghost use Rattle.sink.specs.Meaning.{with_room};
-ghost use Rattle.sink.specs.TextSinks.{text_meaning, TextKept, text_laws};
 
-use crate::lent::{append, told};
+use crate::lent::append;
 use crate::sink::{DisplaySink, RoomSink};
 use armv7::Fault;
 
@@ -12,9 +11,12 @@ use armv7::Fault;
 pub struct TextSink<'a> {
     buf: &'a mut [u8],
     len: usize,
+    ghost within: { len ≤ length buf.now },
 }
 
 impl<'a> TextSink<'a> {
+    ghost use Rattle.sink.specs.TextSinks.{text_meaning};
+
     // A sink with no text yet, and as much room as there are bytes.
     pub fn new(buf: &'a mut [u8]) -> TextSink<'a>
         ensures empty { text_meaning result ≡ with_room (length buf.old) 0 }
@@ -29,12 +31,13 @@ impl<'a> TextSink<'a> {
         ensures text { take result self.entry.buf.now ≡ (text_meaning self.entry).text }
         ensures value { result ≡ length (text_meaning self.entry).text }
     {
-        let TextSink { buf, len } = self;
-        len.min(buf.len())
+        self.len
     }
 }
 
 impl DisplaySink for TextSink<'_> {
+    ghost use Rattle.sink.specs.TextSinks.{text_meaning, TextKept, text_laws};
+
     ghost meaning = { text_meaning };
 
     ghost kept = { TextKept };
@@ -42,10 +45,7 @@ impl DisplaySink for TextSink<'_> {
     ghost laws = { text_laws };
 
     fn write(&mut self, piece: &[u8]) -> Result<(), Fault> {
-        let used = self.len.min(self.buf.len());
-        let count = append(self.buf, used, piece);
-        self.len = used + count;
-        told(count, piece)
+        append(self.buf, &mut self.len, piece)
     }
 
     fn span_start_opcode(&mut self) {}
@@ -59,6 +59,6 @@ impl DisplaySink for TextSink<'_> {
 
 impl RoomSink for TextSink<'_> {
     fn room(&self) -> usize {
-        self.buf.len() - self.len.min(self.buf.len())
+        self.buf.len() - self.len
     }
 }

@@ -1,5 +1,6 @@
 -- Digits in base 16, from the last one on. Assumes nothing.
-use Rattle.std.proofs.Common.{◌≡◌, ℕ, zero, suc, ◌+◌, ◌-◌, ◌/◌, ◌%◌, ◌<◌, ◌≤◌, cond, List, [], ◌∷◌, ◌++◌, length, drop, set, ap, ◌∙◌, append_assoc, not-suc-le-zero, arith, length-set, le-ltb, lt-ltb}
+use Rattle.std.proofs.Common.{◌≡◌, ℕ, zero, suc, ◌+◌, ◌-◌, ◌/◌, ◌%◌, ◌^◌, ◌<◌, ◌≤◌, Bool, true, false, cond, ltb, List, [], ◌∷◌, ◌++◌, length, drop, set, refl, ap, ◌∙◌, append_assoc, not-suc-le-zero, pow-suc, arith, length-set, ltb-false, le-ltb, lt-ltb}
+use Rattle.std.proofs.lemmas.Nat.{div_below}
 use Rattle.std.proofs.lemmas.List.{drop-set}
 use Rattle.visitor.specs.Texts.{hex_digit, hex_digits}
 
@@ -25,3 +26,21 @@ placed xs i j y e h = drop-set xs i y h ∙ ap (λ k. y ∷ drop k xs) e
 
 pub placed_two : (xs : List ℕ) (i k j y z : ℕ) → i + 1 ≡ k → k + 1 ≡ j → k < length xs → drop i (set (set xs k z) i y) ≡ y ∷ z ∷ drop j xs
 placed_two xs i k j y z e f h = placed (set xs k z) i k y e (omega (arith, length-set xs k z)) ∙ ap (λ ds. y ∷ ds) (placed xs k j z f h)
+
+some_left : (k n : ℕ) → 16 ≤ n → n < 16 ^ suc k → 0 < k
+some_left zero n large fits = absurd (omega arith)
+some_left (suc k) n large fits = omega arith
+
+-- the digits of a number are the same for every width that it fits
+pub same_digits : (j k n : ℕ) → 0 < j → 0 < k → n < 16 ^ j → n < 16 ^ k → hex_digits j n ≡ hex_digits k n
+same_digits zero k n some more fits fits' = absurd (not-suc-le-zero some)
+same_digits (suc j) zero n some more fits fits' = absurd (not-suc-le-zero more)
+same_digits (suc j) (suc k) n some more fits fits' =
+    by (ltb n 16)
+    (λ e.
+    let large : 16 ≤ n = ltb-false n 16 e in
+    same_digits j k (n / 16) (some_left j n large fits) (some_left k n large fits') (div_below n 16 (16 ^ j) (omega arith) (omega (arith, fits, pow-suc 16 j))) (div_below n 16 (16 ^ k) (omega arith) (omega (arith, fits', pow-suc 16 k))))
+  where
+    by : (t : Bool) → (t ≡ false → hex_digits j (n / 16) ≡ hex_digits k (n / 16)) → cond t (hex_digit n ∷ []) (hex_digits j (n / 16) ++ hex_digit (n % 16) ∷ []) ≡ cond t (hex_digit n ∷ []) (hex_digits k (n / 16) ++ hex_digit (n % 16) ∷ [])
+    by true f = refl
+    by false f = ap (λ ds. ds ++ hex_digit (n % 16) ∷ []) (f refl)

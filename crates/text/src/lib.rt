@@ -6,7 +6,5 @@ mod number;
 mod piece;
 
 pub use list::write_list;
-pub use number::{
-    write_branch, write_decimal, write_option, write_prefixed_u16, write_prefixed_u32,
-};
+pub use number::{write_branch, write_decimal, write_option, write_prefixed};
 pub use piece::{write_banked_reg, write_banked_spsr, write_reg, write_spanned, write_text};

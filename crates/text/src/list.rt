@@ -9,25 +9,6 @@ use crate::piece::{write_reg, write_text};
 use armv7::{Fault, Reg};
 use sink::DisplaySink;
 
-const ALL_REGS: [Reg; 16] = [
-    Reg::R0,
-    Reg::R1,
-    Reg::R2,
-    Reg::R3,
-    Reg::R4,
-    Reg::R5,
-    Reg::R6,
-    Reg::R7,
-    Reg::R8,
-    Reg::R9,
-    Reg::R10,
-    Reg::R11,
-    Reg::R12,
-    Reg::R13,
-    Reg::R14,
-    Reg::R15,
-];
-
 // A register, behind a comma unless it is the first.
 fn write_next<T: DisplaySink>(out: &mut T, first: bool, reg: Reg) -> Result<(), Fault>
     ensures { Printed T.meaning T.kept ((if first then [] else text_items (codes ", ")) ++ reg_items reg) out.old (outcome result) out.new }
@@ -45,9 +26,9 @@ fn write_chosen<T: DisplaySink>(out: &mut T, mask: u16) -> Result<(), Fault>
 {
     let mut rest = mask;
     let mut first = true;
-    for i in 0..16 {
+    for reg in Reg::ALL.iter() {
         if rest % 2 == 1 {
-            write_next(out, first, ALL_REGS[i])?;
+            write_next(out, first, *reg)?;
             first = false;
         }
         rest /= 2;

@@ -1,5 +1,5 @@
 // Writers of numbers.
-ghost use Rattle.std.specs.Prelude.{◌≡◌, ◌≤◌, ◌++◌, drop, pos, negsuc, codes};
+ghost use Rattle.std.specs.Prelude.{◌≡◌, ℕ, ◌^◌, ◌<◌, ◌≤◌, ◌++◌, drop, pos, negsuc, codes};
 ghost use Rattle.sink.specs.Items.{text_items};
 ghost use Rattle.sink.specs.Outcome.{outcome};
 ghost use Rattle.sink.specs.Printed.{Printed};
@@ -11,56 +11,49 @@ use sink::DisplaySink;
 
 const HEX_DIGITS: [u8; 16] = *b"0123456789abcdef";
 
-// Fills the end of the memory with `0x` and the last digits of the number in base 16, without leading zeros, and answers where
-// that begins.
-fn fill_prefixed(memory: &mut [u8; 10], width: usize, number: u64) -> usize
-    requires { width ≤ 8 }
+// Puts `0x` before the start of the digits, and answers where that begins.
+fn mark_base(memory: &mut [u8; 10], start: usize) -> usize
+    requires low { 2 ≤ start }
+    requires high { start ≤ 10 }
     ensures range { result ≤ 10 }
-    ensures value { drop result memory.new ≡ prefixed width number }
+    ensures value { drop result memory.new ≡ codes "0x" ++ drop start memory.old }
 {
-    let mut at: usize = 10;
-    let mut left = width;
+    memory[start - 1] = b'x';
+    memory[start - 2] = b'0';
+    start - 2
+}
+
+// Fills the end of the memory with `0x` and the last eight digits of the number in base 16, without leading zeros, and answers
+// where that begins.
+fn fill_prefixed(memory: &mut [u8; 10], number: u64) -> usize
+    ensures range { result ≤ 10 }
+    ensures value { drop result memory.new ≡ prefixed 8 number }
+{
     let mut rest = number;
-    while left > 0 {
-        at -= 1;
-        left -= 1;
-        memory[at] = HEX_DIGITS[(rest % 16) as usize];
+    for place in (2..10).rev() {
+        memory[place] = HEX_DIGITS[(rest % 16) as usize];
         if rest < 16 {
-            left = 0;
+            return mark_base(memory, place);
         }
         rest /= 16;
     }
-    memory[at - 1] = b'x';
-    memory[at - 2] = b'0';
-    at - 2
+    mark_base(memory, 2)
 }
 
-// `0x` and the last digits of the number in base 16, without leading zeros.
-fn write_prefixed<T: DisplaySink>(out: &mut T, width: usize, number: u64) -> Result<(), Fault>
-    requires { width ≤ 8 }
-    ensures { Printed T.meaning T.kept (text_items (prefixed width number)) out.old (outcome result) out.new }
+// `0x` and the last eight digits of the number in base 16, without leading zeros.
+fn write_last_digits<T: DisplaySink>(out: &mut T, number: u64) -> Result<(), Fault>
+    ensures { Printed T.meaning T.kept (text_items (prefixed 8 number)) out.old (outcome result) out.new }
 {
     let mut memory = [0u8; 10];
-    let start = fill_prefixed(&mut memory, width, number);
+    let start = fill_prefixed(&mut memory, number);
     write_text(out, &memory[start..])
 }
 
-pub(crate) fn write_prefixed_u8<T: DisplaySink>(out: &mut T, number: u8) -> Result<(), Fault>
-    ensures { Printed T.meaning T.kept (text_items (prefixed 2 number)) out.old (outcome result) out.new }
+// `0x` and the digits of the number in base 16, without leading zeros: for every width that it fits, the same text.
+pub fn write_prefixed<T: DisplaySink>(out: &mut T, number: u32) -> Result<(), Fault>
+    ensures printed { (k : ℕ) → 0 < k → number < 16 ^ k → Printed T.meaning T.kept (text_items (prefixed k number)) out.old (outcome result) out.new }
 {
-    write_prefixed(out, 2, u64::from(number))
-}
-
-pub fn write_prefixed_u16<T: DisplaySink>(out: &mut T, number: u16) -> Result<(), Fault>
-    ensures printed { Printed T.meaning T.kept (text_items (prefixed 4 number)) out.old (outcome result) out.new }
-{
-    write_prefixed(out, 4, u64::from(number))
-}
-
-pub fn write_prefixed_u32<T: DisplaySink>(out: &mut T, number: u32) -> Result<(), Fault>
-    ensures printed { Printed T.meaning T.kept (text_items (prefixed 8 number)) out.old (outcome result) out.new }
-{
-    write_prefixed(out, 8, u64::from(number))
+    write_last_digits(out, u64::from(number))
 }
 
 // The digits of the number, in decimal.
@@ -85,11 +78,7 @@ pub fn write_branch<T: DisplaySink>(out: &mut T, scale: u8, distance: i32) -> Re
     ensures printed { Printed T.meaning T.kept (text_items (branch_text scale distance)) out.old (outcome result) out.new }
 {
     write_text(out, direction(distance))?;
-    write_prefixed(
-        out,
-        8,
-        u64::from(scale) * u64::from(distance.unsigned_abs()),
-    )
+    write_last_digits(out, u64::from(scale) * u64::from(distance.unsigned_abs()))
 }
 
 // The option of a coprocessor, in braces.
@@ -97,6 +86,6 @@ pub fn write_option<T: DisplaySink>(out: &mut T, number: u8) -> Result<(), Fault
     ensures printed { Printed T.meaning T.kept (text_items (codes "{" ++ (prefixed 2 number ++ codes "}"))) out.old (outcome result) out.new }
 {
     write_text(out, b"{")?;
-    write_prefixed_u8(out, number)?;
+    write_prefixed(out, u32::from(number))?;
     write_text(out, b"}")
 }

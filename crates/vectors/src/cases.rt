@@ -4,6 +4,7 @@ use crate::judge::{Answer, Verdict, judge};
 use armv7::{Call, Fault};
 use call_notation::{Misread, read_line};
 use std::alloc::{AllocError, Global};
+use std::str;
 
 // As many shift words as an instruction can have.
 const OPERANDS: usize = 4;
@@ -18,24 +19,11 @@ fn shift_word_in(number: u16) -> u16 {
     }
 }
 
-fn is_shift_word(misread: &Misread<'_>) -> bool {
-    match misread.refusal {
-        Some(Fault::ShiftWord) => true,
-        _ => false,
-    }
-}
-
 // The number that stands for no shift word, if that is what cannot be read.
 fn bad_word(misread: &Misread<'_>) -> Option<u16> {
-    if !is_shift_word(misread) {
-        return None;
-    }
-    let Ok(text) = std::str::from_utf8(misread.found) else {
-        return None;
-    };
-    match text.parse::<u16>() {
-        Ok(number) => Some(number),
-        Err(_) => None,
+    match misread.refusal {
+        Some(Fault::ShiftWord) => str::from_utf8(misread.found).ok()?.parse().ok(),
+        _ => None,
     }
 }
 
@@ -43,16 +31,15 @@ fn bad_word(misread: &Misread<'_>) -> Option<u16> {
 fn with_word(
     heap: Global,
     line: &[u8],
-    from: usize,
-    length: usize,
+    misread: &Misread<'_>,
     word: u16,
 ) -> Result<Vec<u8>, AllocError> {
-    let start = from.min(line.len());
-    let end = start.saturating_add(length).min(line.len());
+    let start = misread.column.saturating_sub(1).min(line.len());
+    let end = start.saturating_add(misread.found.len()).min(line.len());
     let number = format!(in heap; "{word}")?;
-    let mut text = Vec::from_slice(heap, &line[0..start])?;
+    let mut text = Vec::from_slice(heap, &line[..start])?;
     text.extend_from_slice(number.as_bytes())?;
-    text.extend_from_slice(&line[end..line.len()])?;
+    text.extend_from_slice(&line[end..])?;
     Ok(text)
 }
 
@@ -61,21 +48,14 @@ fn with_shift_words(heap: Global, line: &[u8]) -> Result<(Vec<u8>, Seen), AllocE
     let mut text = Vec::from_slice(heap, line)?;
     let mut seen = Seen::nothing();
     for _ in 0..OPERANDS {
-        let better = match read_line(text.as_slice()) {
-            Ok(_) => break,
-            Err(misread) => match bad_word(&misread) {
-                None => break,
-                Some(number) => with_word(
-                    heap,
-                    text.as_slice(),
-                    misread.column.saturating_sub(1),
-                    misread.found.len(),
-                    shift_word_in(number),
-                )?,
-            },
+        let Err(misread) = read_line(text.as_slice()) else {
+            break;
         };
+        let Some(number) = bad_word(&misread) else {
+            break;
+        };
+        text = with_word(heap, text.as_slice(), &misread, shift_word_in(number))?;
         seen.add(Difference::ShiftWord);
-        text = better;
     }
     Ok((text, seen))
 }

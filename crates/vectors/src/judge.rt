@@ -1,18 +1,18 @@
 // Judges a case: the printer's answer against the original's.
 use crate::difference::{Difference, Seen};
-use crate::edits::as_written;
-use crate::family::{Family, family_of};
-use crate::line::Line;
+use crate::line::{Draft, Line};
 use crate::repair::repaired;
 use armv7::{Fault, Instruction, Operand, Place};
 use display::visit_inst;
+use kind::{Kind, kind_by};
 use sink::{Edge, Mark, MarkSink, Span};
 use std::alloc::{AllocError, Global};
 
 // What the original answered, as it is stored.
+// Kept: an Option would not say that it panicked.
 #[derive(Clone, Copy)]
 pub enum Answer<'a> {
-    Line(&'a [u8], &'a [u8]),
+    Line { text: &'a str, marks: &'a str },
     Panicked,
 }
 
@@ -22,12 +22,6 @@ pub enum Verdict {
     Listed(Seen),
     Stopped(Seen),
     Unexplained,
-}
-
-#[derive(Drop)]
-pub enum Printed {
-    Line(Line),
-    Refused(Fault),
 }
 
 // The longest line has 285 bytes and 130 marks.
@@ -41,18 +35,18 @@ const NO_MARK: Mark = Mark {
     at: 0,
 };
 
-fn print(heap: Global, instruction: &Instruction) -> Result<Printed, AllocError> {
+fn print(heap: Global, instruction: &Instruction) -> Result<Result<Line, Fault>, AllocError> {
     let mut memory = [0u8; BYTES];
     let mut row = [NO_MARK; MARKS];
     let mut out = MarkSink::new(&mut memory, &mut row);
     let answer = visit_inst(instruction, &mut out);
     let (length, count) = out.end();
     if let Err(fault) = answer {
-        return Ok(Printed::Refused(fault));
+        return Ok(Err(fault));
     }
-    let text = Vec::from_slice(heap, &memory[0..length.min(BYTES)])?;
-    let marks = Vec::from_slice(heap, &row[0..count.min(MARKS)])?;
-    Ok(Printed::Line(Line { text, marks }))
+    let text = Vec::from_slice(heap, &memory[..length.min(BYTES)])?;
+    let marks = Vec::from_slice(heap, &row[..count.min(MARKS)])?;
+    Ok(Ok(Line { text, marks }))
 }
 
 fn at(operands: [Operand; 4], place: Place) -> Operand {
@@ -68,14 +62,14 @@ fn at(operands: [Operand; 4], place: Place) -> Operand {
 // The panic that the refusal stands for.
 fn stop(fault: Fault, instruction: &Instruction) -> Option<Difference> {
     match fault {
-        Fault::Shape => match family_of(instruction.opcode) {
-            Family::Block(_) => Some(Difference::BlockShape),
-            Family::It => Some(Difference::ItShape),
-            Family::Cps | Family::Setend => Some(Difference::ModeShape),
+        Fault::Shape => match kind_by(instruction.opcode) {
+            Kind::Block(_) => Some(Difference::BlockShape),
+            Kind::It => Some(Difference::ItShape),
+            Kind::Cps | Kind::Setend => Some(Difference::ModeShape),
             _ => None,
         },
-        Fault::Field(Place::First) => match family_of(instruction.opcode) {
-            Family::It => Some(Difference::ItCondition),
+        Fault::Field(Place::First) => match kind_by(instruction.opcode) {
+            Kind::It => Some(Difference::ItCondition),
             _ => None,
         },
         Fault::DeadOperand(place) => match at(instruction.operands, place) {
@@ -90,46 +84,36 @@ fn stop(fault: Fault, instruction: &Instruction) -> Option<Difference> {
     }
 }
 
-// The refusal of what was asked has a number of the differences that were seen; what was not repaired is judged as it is.
-fn is_refused_so(asked: &Printed, seen: &Seen) -> bool {
-    match asked {
-        Printed::Refused(fault) => seen.refuse(fault.number()),
-        Printed::Line(_) => false,
-    }
-}
-
 fn judge_line(
     heap: Global,
     asked: &Instruction,
-    mut line: Line,
+    line: Line,
     answer: Answer<'_>,
-    mut seen: Seen,
+    seen: Seen,
 ) -> Result<Verdict, AllocError> {
-    let Answer::Line(text, marks) = answer else {
+    let Answer::Line { text, marks } = answer else {
         return Ok(Verdict::Unexplained);
     };
-    as_written(heap, asked, &mut line, &mut seen)?;
-    let same_text = line.told_text(heap)?.as_slice() == text;
-    let same_marks = line.told_marks(heap)?.as_slice() == marks;
+    let mut draft = Draft { heap, line, seen };
+    draft.as_written(asked)?;
+    let same_text = draft.line.told_text(heap)?.as_str() == text;
+    let same_marks = draft.line.told_marks(heap)?.as_str() == marks;
     if !same_text || !same_marks {
         return Ok(Verdict::Unexplained);
     }
-    if seen.is_empty() {
+    if draft.seen.is_empty() {
         return Ok(Verdict::Equal);
     }
-    Ok(Verdict::Listed(seen))
+    Ok(Verdict::Listed(draft.seen))
 }
 
 fn judge_refusal(fault: Fault, taken: &Instruction, answer: Answer<'_>, mut seen: Seen) -> Verdict {
-    let Answer::Panicked = answer else {
-        return Verdict::Unexplained;
-    };
-    match stop(fault, taken) {
-        Some(difference) => {
+    match (answer, stop(fault, taken)) {
+        (Answer::Panicked, Some(difference)) => {
             seen.add(difference);
             Verdict::Stopped(seen)
         }
-        None => Verdict::Unexplained,
+        _ => Verdict::Unexplained,
     }
 }
 
@@ -142,12 +126,15 @@ pub(crate) fn judge(
 ) -> Result<Verdict, AllocError> {
     let mut seen = Seen::nothing();
     let taken = repaired(asked, &mut seen);
-    if !seen.is_empty() && !is_refused_so(&print(heap, asked)?, &seen) {
+
+    // The refusal of what was asked has a number of the differences that were seen; what was not repaired is judged as it is.
+    let refused_so = print(heap, asked)?.is_err_and(|fault| seen.refuse(fault.number()));
+    if !seen.is_empty() && !refused_so {
         return Ok(Verdict::Unexplained);
     }
     let known = seen.joined(read);
     match print(heap, &taken)? {
-        Printed::Line(line) => judge_line(heap, asked, line, answer, known),
-        Printed::Refused(fault) => Ok(judge_refusal(fault, &taken, answer, known)),
+        Ok(line) => judge_line(heap, asked, line, answer, known),
+        Err(fault) => Ok(judge_refusal(fault, &taken, answer, known)),
     }
 }

@@ -1,6 +1,8 @@
 // A line with its marks, as it can be edited and compared.
+use crate::difference::{Difference, Seen};
 use sink::{Edge, Mark, Span};
 use std::alloc::{AllocError, Global};
+use std::fmt::Write;
 
 #[derive(Drop)]
 pub struct Line {
@@ -8,39 +10,31 @@ pub struct Line {
     pub marks: Vec<Mark>,
 }
 
-const HEX_DIGITS: [u8; 16] = *b"0123456789abcdef";
-
 // A byte as it stands in the stored answers.
-fn push_byte(out: &mut Vec<u8>, byte: u8) -> Result<(), AllocError> {
+fn push_byte(out: &mut String, byte: u8) -> Result<(), AllocError> {
     if byte < 32 || byte > 126 || byte == b'\\' {
-        out.extend_from_slice(b"\\x")?;
-        out.push(HEX_DIGITS[(byte / 16) as usize])?;
-        out.push(HEX_DIGITS[(byte % 16) as usize])?;
+        write!(out, "\\x{byte:02x}")
     } else {
-        out.push(byte)?;
+        out.push(char::from(byte))
     }
-    Ok(())
 }
 
-fn push_mark(heap: Global, out: &mut Vec<u8>, mark: Mark) -> Result<(), AllocError> {
-    out.push(b' ')?;
-    out.push(match mark.edge {
-        Edge::Start => b's',
-        Edge::End => b'e',
-    })?;
-    out.push(match mark.span {
-        Span::Opcode => b'o',
-        Span::Register => b'r',
-    })?;
-    let at = mark.at;
-    let number = format!(in heap; "{at}")?;
-    out.extend_from_slice(number.as_bytes())
+fn push_mark(out: &mut String, mark: &Mark) -> Result<(), AllocError> {
+    let edge = match mark.edge {
+        Edge::Start => 's',
+        Edge::End => 'e',
+    };
+    let span = match mark.span {
+        Span::Opcode => 'o',
+        Span::Register => 'r',
+    };
+    write!(out, " {edge}{span}{}", mark.at)
 }
 
 impl Line {
     // The text as the stored answers have it.
-    pub(crate) fn told_text(&self, heap: Global) -> Result<Vec<u8>, AllocError> {
-        let mut out = Vec::from_slice(heap, b"= ")?;
+    pub(crate) fn told_text(&self, heap: Global) -> Result<String, AllocError> {
+        let mut out = String::from_str(heap, "= ")?;
         for byte in self.text.iter() {
             push_byte(&mut out, *byte)?;
         }
@@ -48,10 +42,10 @@ impl Line {
     }
 
     // The marks as the stored answers have them.
-    pub(crate) fn told_marks(&self, heap: Global) -> Result<Vec<u8>, AllocError> {
-        let mut out = Vec::from_slice(heap, b"m")?;
+    pub(crate) fn told_marks(&self, heap: Global) -> Result<String, AllocError> {
+        let mut out = String::from_str(heap, "m")?;
         for mark in self.marks.iter() {
-            push_mark(heap, &mut out, *mark)?;
+            push_mark(&mut out, mark)?;
         }
         Ok(out)
     }
@@ -66,34 +60,13 @@ impl Line {
 
     // Where the piece stands first from `from` on, if it does.
     pub(crate) fn find(&self, from: usize, piece: &[u8]) -> Option<usize> {
-        let text = self.text.as_slice();
-        for at in from..text.len() {
-            if text[at..text.len()].starts_with(piece) {
-                return Some(at);
-            }
-        }
-        None
+        (from..self.text.len()).find(|at| self.stands(*at, piece))
     }
 
-    // Puts `new` where `old` stands at `at`; false if something else stands there. Marks behind that place move along.
-    pub(crate) fn put(
-        &mut self,
-        heap: Global,
-        at: usize,
-        old: &[u8],
-        new: &[u8],
-    ) -> Result<bool, AllocError> {
-        let text = self.text.as_slice();
-        if at > text.len() || !text[at..text.len()].starts_with(old) {
-            return Ok(false);
-        }
-        let end = at.saturating_add(old.len()).min(text.len());
-        let mut edited = Vec::from_slice(heap, &text[0..at])?;
-        edited.extend_from_slice(new)?;
-        edited.extend_from_slice(&text[end..text.len()])?;
-        self.text = edited;
-        self.move_marks(at, old.len(), new.len());
-        Ok(true)
+    fn stands(&self, at: usize, piece: &[u8]) -> bool {
+        self.text
+            .get(at..)
+            .is_some_and(|rest| rest.starts_with(piece))
     }
 
     fn move_marks(&mut self, from: usize, gone: usize, come: usize) {
@@ -103,16 +76,58 @@ impl Line {
             }
         }
     }
+}
+
+// The printer's line on its way to the original's, with the differences that were seen on it.
+#[derive(Drop)]
+pub struct Draft {
+    pub heap: Global,
+    pub line: Line,
+    pub seen: Seen,
+}
+
+impl Draft {
+    // Puts `theirs` where `ours` stands at `at`; false if something else stands there. Marks behind that place move along.
+    pub(crate) fn put(
+        &mut self,
+        at: usize,
+        ours: &[u8],
+        theirs: &[u8],
+    ) -> Result<bool, AllocError> {
+        let text = self.line.text.as_slice();
+        let Some((front, rest)) = text.split_at_checked(at) else {
+            return Ok(false);
+        };
+        let Some(behind) = rest.strip_prefix(ours) else {
+            return Ok(false);
+        };
+        let mut edited = Vec::from_slice(self.heap, front)?;
+        edited.extend_from_slice(theirs)?;
+        edited.extend_from_slice(behind)?;
+        self.line.text = edited;
+        self.line.move_marks(at, ours.len(), theirs.len());
+        Ok(true)
+    }
+
+    // The same, which shows the difference if `ours` stands there.
+    pub(crate) fn rewrite(
+        &mut self,
+        at: usize,
+        ours: &[u8],
+        theirs: &[u8],
+        difference: Difference,
+    ) -> Result<(), AllocError> {
+        if self.put(at, ours, theirs)? {
+            self.seen.add(difference);
+        }
+        Ok(())
+    }
 
     // Takes out the two marks behind those of the word.
-    pub(crate) fn drop_first_register(&mut self, heap: Global) -> Result<(), AllocError> {
-        let mut kept = Vec::new(heap);
-        for (i, mark) in self.marks.iter().enumerate() {
-            if i < 2 || i > 3 {
-                kept.push(*mark)?;
-            }
-        }
-        self.marks = kept;
+    pub(crate) fn drop_first_register(&mut self) -> Result<(), AllocError> {
+        let marks = self.line.marks.as_slice();
+        let kept = marks.iter().take(2).chain(marks.iter().skip(4));
+        self.line.marks = kept.copied().collect(self.heap)?;
         Ok(())
     }
 }

@@ -13,12 +13,11 @@ mod tally;
 
 use anyhow::anyhow;
 use std::io;
-use std::io::Write;
 
 fn run(rt: &HostRuntime) -> anyhow::Result<()> {
     let stored = io::read_to_string(rt.alloc(), rt.stdin())?;
     let tally = tally::of(rt.alloc(), stored.as_str())?;
-    rt.stdout().write_all(tally.puzzles.as_slice())?;
+    rt.print(tally.puzzles.as_str())?;
     let told = tally.told(rt.alloc())?;
     rt.print(told.as_str())?;
     if tally.unexplained > 0 {

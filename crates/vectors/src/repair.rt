@@ -1,13 +1,11 @@
 // The instruction with all that is out of range put where the original, which does not test it, takes it to be.
 use crate::difference::{Difference, Seen};
-use crate::family::{Codes, Family, family_of, with_numbers};
-use armv7::{Instruction, Opcode, Operand};
+use crate::family::with_small_codes;
+use armv7::{Instruction, Operand};
+use kind::{Codes, Kind, kind_by};
 
 pub(crate) fn is_nothing(operand: Operand) -> bool {
-    match operand {
-        Operand::Nothing => true,
-        _ => false,
-    }
+    matches!(operand, Operand::Nothing)
 }
 
 // Whether the scale takes the distance of a branch out of 32 bits.
@@ -35,11 +33,10 @@ fn near(operand: Operand) -> Operand {
 
 // Whether the original stops at the operand.
 fn stops(operand: Operand) -> bool {
-    match operand {
-        Operand::Coprocessor(_) => true,
-        Operand::RegDerefPostindexRegShift(_, _, _, wback) => wback,
-        _ => false,
-    }
+    matches!(
+        operand,
+        Operand::Coprocessor(_) | Operand::RegDerefPostindexRegShift(_, _, _, true)
+    )
 }
 
 // The operands that the original comes to, with branches that do not go too far.
@@ -57,25 +54,21 @@ fn near_operands(operands: [Operand; 4], seen: &mut Seen) -> [Operand; 4] {
     all
 }
 
-// Codes above 15 become 0.
-fn small_codes(opcode: Opcode, codes: Codes, seen: &mut Seen) -> Opcode {
-    let mut numbers = codes.numbers;
-    for number in numbers.iter_mut() {
-        if *number > 15 {
-            seen.add(Difference::Code);
-            *number = 0;
-        }
-    }
-    with_numbers(opcode, numbers)
+// Whether a code is above 15.
+fn has_large_code(codes: Codes) -> bool {
+    let all = [Some(codes.coprocessor), codes.second, codes.third];
+    all.iter().flatten().any(|code| *code > 15)
 }
 
 // Of an IT condition the original takes the low byte, and of a mask four bits.
 fn it_operands(operands: [Operand; 4], seen: &mut Seen) -> [Operand; 4] {
-    let [first, second, third, fourth] = operands;
-    let Operand::Imm32(condition) = first else {
-        return operands;
-    };
-    let Operand::Imm32(mask) = second else {
+    let [
+        Operand::Imm32(condition),
+        Operand::Imm32(mask),
+        third,
+        fourth,
+    ] = operands
+    else {
         return operands;
     };
     if condition > 255 && condition % 256 < 15 {
@@ -94,8 +87,7 @@ fn it_operands(operands: [Operand; 4], seen: &mut Seen) -> [Operand; 4] {
 
 // Of CPS flags the original shows three, and of a second operand only a mode.
 fn cps_operands(operands: [Operand; 4], seen: &mut Seen) -> [Operand; 4] {
-    let [first, second, third, fourth] = operands;
-    let Operand::Imm12(flags) = first else {
+    let [Operand::Imm12(flags), second, third, fourth] = operands else {
         return operands;
     };
     if flags > 7 {
@@ -110,15 +102,18 @@ fn cps_operands(operands: [Operand; 4], seen: &mut Seen) -> [Operand; 4] {
 
 pub(crate) fn repaired(asked: &Instruction, seen: &mut Seen) -> Instruction {
     let mut taken = *asked;
-    match family_of(asked.opcode) {
-        Family::It => taken.operands = it_operands(asked.operands, seen),
-        Family::Cps => taken.operands = cps_operands(asked.operands, seen),
-        Family::Block(_) | Family::Setend => {}
-        Family::Coprocessor(codes) => {
-            taken.opcode = small_codes(asked.opcode, codes, seen);
+    match kind_by(asked.opcode) {
+        Kind::It => taken.operands = it_operands(asked.operands, seen),
+        Kind::Cps => taken.operands = cps_operands(asked.operands, seen),
+        Kind::Block(_) | Kind::Setend => {}
+        Kind::Coprocessor(codes) => {
+            if has_large_code(codes) {
+                seen.add(Difference::Code);
+            }
+            taken.opcode = with_small_codes(asked.opcode);
             taken.operands = near_operands(asked.operands, seen);
         }
-        Family::Exchange(_) | Family::Other => taken.operands = near_operands(asked.operands, seen),
+        _ => taken.operands = near_operands(asked.operands, seen),
     }
     taken
 }

@@ -1,8 +1,9 @@
 // Counts the verdicts, and tells them.
 use crate::cases::judge_case;
-use crate::difference::{COUNT, NAMES, Seen};
+use crate::difference::{COUNT, Difference, Seen};
 use crate::judge::{Answer, Verdict};
 use std::alloc::{AllocError, Global};
+use std::fmt::Write;
 
 #[derive(Drop)]
 pub struct Tally {
@@ -12,26 +13,27 @@ pub struct Tally {
     pub stopped: u64,
     pub unexplained: u64,
     // How many cases show each difference.
-    pub shown: [u64; 24],
+    shown: [u64; COUNT],
     // The cases that nothing explains.
-    pub puzzles: Vec<u8>,
+    pub puzzles: String,
 }
 
 impl Tally {
     fn show(&mut self, seen: &Seen) {
-        for i in 0..COUNT {
-            if seen.shown[i] {
-                self.shown[i] = self.shown[i].saturating_add(1);
+        for difference in Difference::ALL {
+            if seen.has(difference) {
+                let shown = self.shown[difference as usize];
+                self.shown[difference as usize] = shown.saturating_add(1);
             }
         }
     }
 
-    fn judge(&mut self, heap: Global, case: &[u8], answer: Answer<'_>) -> Result<(), AllocError> {
-        let verdict = judge_case(heap, case, answer)?;
+    fn judge(&mut self, heap: Global, case: &str, answer: Answer<'_>) -> Result<(), AllocError> {
+        let verdict = judge_case(heap, case.as_bytes(), answer)?;
         self.count(case, verdict)
     }
 
-    fn count(&mut self, case: &[u8], verdict: Verdict) -> Result<(), AllocError> {
+    fn count(&mut self, case: &str, verdict: Verdict) -> Result<(), AllocError> {
         self.cases = self.cases.saturating_add(1);
         match verdict {
             Verdict::Equal => self.equal = self.equal.saturating_add(1),
@@ -45,9 +47,7 @@ impl Tally {
             }
             Verdict::Unexplained => {
                 self.unexplained = self.unexplained.saturating_add(1);
-                self.puzzles.extend_from_slice(b"unexplained: ")?;
-                self.puzzles.extend_from_slice(case)?;
-                self.puzzles.push(b'\n')?;
+                writeln!(self.puzzles, "unexplained: {case}")?;
             }
         }
         Ok(())
@@ -66,11 +66,9 @@ impl Tally {
         let mut text = format!(in heap;
             "{cases} answers of the original: {equal} equal in text and marks, {listed} with listed differences, {stopped} panics, {unexplained} unexplained\n"
         )?;
-        for i in 0..COUNT {
-            let number = shown[i];
-            let name = NAMES[i];
-            let row = format!(in heap; "{number:>6}  {name}\n")?;
-            text.push_str(row.as_str())?;
+        for difference in Difference::ALL {
+            let number = shown[difference as usize];
+            writeln!(text, "{number:>6}  {difference}")?;
         }
         Ok(text)
     }
@@ -84,19 +82,17 @@ pub(crate) fn of(heap: Global, stored: &str) -> Result<Tally, AllocError> {
         listed: 0,
         stopped: 0,
         unexplained: 0,
-        shown: [0; 24],
-        puzzles: Vec::new(heap),
+        shown: [0; COUNT],
+        puzzles: String::new(heap),
     };
-    let nothing: &[u8] = b"";
-    let mut case = nothing;
-    let mut text = nothing;
+    let mut case = "";
+    let mut text = "";
     for line in stored.lines() {
-        let bytes = line.as_bytes();
-        match bytes {
-            [b'=', ..] => text = bytes,
-            [b'm', ..] => tally.judge(heap, case, Answer::Line(text, bytes))?,
+        match line.as_bytes() {
+            [b'=', ..] => text = line,
+            [b'm', ..] => tally.judge(heap, case, Answer::Line { text, marks: line })?,
             [b'!', ..] => tally.judge(heap, case, Answer::Panicked)?,
-            _ => case = bytes,
+            _ => case = line,
         }
     }
     Ok(tally)

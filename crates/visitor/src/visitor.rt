@@ -4,6 +4,7 @@ ghost use Rattle.armv7.specs.declared.operand.Operand.{Operand};
 
 use armv7::{Bank, CReg, Operand, Reg, RegShift, StatusRegMask};
 
+// Kept: a method for each kind of operand, since this interface is the original printer's.
 pub trait OperandVisitor {
     type Ok;
 

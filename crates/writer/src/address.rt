@@ -1,6 +1,6 @@
 // Writers of addresses. Where two flags are given, the first adds the offset rather than taking it off, and the second writes the
 // address back.
-ghost use Rattle.std.specs.Prelude.{false, ◌++◌, codes};
+ghost use Rattle.std.specs.Prelude.{false, ◌++◌, if◌then◌else◌, codes};
 ghost use Rattle.armv7.specs.declared.operand.Operand.TheVariants.{RegWBack, RegDeref, RegDerefPostindexRegShift, RegDerefPreindexRegShift, RegDerefPostindexOffset, RegDerefPreindexOffset, RegDerefPostindexReg, RegDerefPreindexReg};
 ghost use Rattle.sink.specs.Items.{text_items};
 ghost use Rattle.sink.specs.Outcome.{outcome};
@@ -11,8 +11,25 @@ ghost use Rattle.visitor.specs.Texts.{reg_items};
 use crate::shift::write_shift;
 use armv7::{Fault, Reg, RegShift};
 use sink::DisplaySink;
-use text::{write_prefixed_u16, write_reg, write_text};
+use text::{write_prefixed, write_reg, write_text};
 
+// One of two texts.
+fn write_either<T: DisplaySink>(
+    out: &mut T,
+    flag: bool,
+    set: &[u8],
+    clear: &[u8],
+) -> Result<(), Fault>
+    ensures { Printed T.meaning T.kept (text_items (if flag then set.now else clear.now)) out.old (outcome result) out.new }
+{
+    if flag {
+        write_text(out, set)
+    } else {
+        write_text(out, clear)
+    }
+}
+
+// Kept: an empty text in place of none would be one call of the sink more.
 fn write_bang<T: DisplaySink>(out: &mut T, wback: bool) -> Result<(), Fault>
     ensures { Printed T.meaning T.kept (text_items (bang wback)) out.old (outcome result) out.new }
 {
@@ -23,44 +40,28 @@ fn write_bang<T: DisplaySink>(out: &mut T, wback: bool) -> Result<(), Fault>
 fn write_close<T: DisplaySink>(out: &mut T, wback: bool) -> Result<(), Fault>
     ensures { Printed T.meaning T.kept (text_items (codes "]" ++ bang wback)) out.old (outcome result) out.new }
 {
-    if wback {
-        write_text(out, b"]!")
-    } else {
-        write_text(out, b"]")
-    }
+    write_either(out, wback, b"]!", b"]")
 }
 
 // What stands before an offset inside the address.
 fn write_comma<T: DisplaySink>(out: &mut T, add: bool) -> Result<(), Fault>
     ensures { Printed T.meaning T.kept (text_items (codes ", " ++ minus add)) out.old (outcome result) out.new }
 {
-    if add {
-        write_text(out, b", ")
-    } else {
-        write_text(out, b", -")
-    }
+    write_either(out, add, b", ", b", -")
 }
 
 // What stands before a register behind the address.
 fn write_past<T: DisplaySink>(out: &mut T, add: bool) -> Result<(), Fault>
     ensures { Printed T.meaning T.kept (text_items (codes "], " ++ minus add)) out.old (outcome result) out.new }
 {
-    if add {
-        write_text(out, b"], ")
-    } else {
-        write_text(out, b"], -")
-    }
+    write_either(out, add, b"], ", b"], -")
 }
 
 // What stands before a shift behind the address.
 fn write_past_blank<T: DisplaySink>(out: &mut T, add: bool) -> Result<(), Fault>
     ensures { Printed T.meaning T.kept (text_items (codes "], " ++ (minus add ++ codes " "))) out.old (outcome result) out.new }
 {
-    if add {
-        write_text(out, b"],  ")
-    } else {
-        write_text(out, b"], - ")
-    }
+    write_either(out, add, b"],  ", b"], - ")
 }
 
 fn write_base<T: DisplaySink>(out: &mut T, base: Reg) -> Result<(), Fault>
@@ -78,7 +79,7 @@ fn write_offset<T: DisplaySink>(out: &mut T, offset: u16, add: bool) -> Result<(
         return Ok(());
     }
     write_comma(out, add)?;
-    write_prefixed_u16(out, offset)
+    write_prefixed(out, u32::from(offset))
 }
 
 pub fn write_reg_wback<T: DisplaySink>(out: &mut T, reg: Reg, wback: bool) -> Result<(), Fault>
@@ -109,6 +110,8 @@ pub(crate) fn write_postindex_reg_shift<T: DisplaySink>(
     write_shift(out, shift)
 }
 
+// Kept: the three addresses with their offset inside are three functions, since what one wrote in the middle would have to come as a
+// closure over the sink.
 pub(crate) fn write_preindex_reg_shift<T: DisplaySink>(
     out: &mut T,
     base: Reg,

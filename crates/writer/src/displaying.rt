@@ -13,8 +13,8 @@ use crate::shift::write_shift;
 use armv7::{Bank, CReg, Fault, Operand, Place, Reg, RegShift, StatusRegMask};
 use sink::DisplaySink;
 use text::{
-    write_banked_reg, write_banked_spsr, write_branch, write_list, write_option,
-    write_prefixed_u16, write_prefixed_u32, write_reg, write_spanned,
+    write_banked_reg, write_banked_spsr, write_branch, write_list, write_option, write_prefixed,
+    write_reg, write_spanned,
 };
 use visitor::{OperandVisitor, visit};
 
@@ -114,11 +114,11 @@ impl<T: DisplaySink> OperandVisitor for DisplayingOperandVisitor<'_, T> {
     }
 
     fn visit_imm12(&mut self, imm: u16) -> Result<(), Fault> {
-        write_prefixed_u16(self.f, imm)
+        write_prefixed(self.f, u32::from(imm))
     }
 
     fn visit_imm32(&mut self, imm: u32) -> Result<(), Fault> {
-        write_prefixed_u32(self.f, imm)
+        write_prefixed(self.f, imm)
     }
 
     fn visit_branch_offset(&mut self, offset: i32) -> Result<(), Fault> {

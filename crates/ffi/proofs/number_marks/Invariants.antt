@@ -3,5 +3,5 @@ use Rattle.ffi.specs.Lines.{over}
 use Rattle.ffi.specs.Marks.{mark_code}
 use Rattle.ffi.proofs.number_marks.Given as goal
 
-abbrev pub invariant-loop-i : goal.invariant-loop-i
-invariant-loop-i l = l.row ≡ over (map mark_code (take l.i l.marks)) l.initial.row
+abbrev pub invariant-loop-place : goal.invariant-loop-place
+invariant-loop-place l = l.row ≡ over (map mark_code (take l.place l.mark-items)) l.initial.row

@@ -1,11 +1,11 @@
-use Rattle.std.proofs.Common.{◌≡◌, length, take, sym, ap, ◌∙◌, take_all}
+use Rattle.std.proofs.Common.{◌≡◌, ◌≤◌, min, length, take, sym, ap, ◌∙◌, subst, arith, take_all, length-take}
 use Rattle.sink.specs.Items.{marks_from}
 use Rattle.sink.specs.MarkSinks.{mark_meaning, MarkKept, mark_laws}
 use Rattle.sink.specs.Outcome.{outcome}
 use Rattle.lines.specs.Admission.{refused}
 use Rattle.lines.specs.Lines.{line}
 use Rattle.blocks.proofs.Bounds.{lines_bounded}
-use Rattle.ffi.specs.Lines.{items_unless, numbered, over}
+use Rattle.ffi.specs.Lines.{items_unless, numbered, over, TellsRefusal}
 use Rattle.ffi.specs.Marks.{numbers_in}
 use Rattle.ffi.proofs.Numbers.{marks_within}
 use Rattle.ffi.proofs.Shown.{shows, filled_over}
@@ -18,15 +18,18 @@ returns c =
     let same = c.new-sink.ensures.memory.0 in
     let told = shows mark_meaning MarkKept mark_laws (line i) _ 130 c.new-sink.result c.visit_inst-answer.new.out (outcome c.visit_inst-answer.result) (refused i) empty c.visit_inst-answer.ensures.printed_or_refused in
     let items = items_unless (refused i) (length c.args.out.now) (line i) in
-    let held : take c.end-length.result.1 c.marks-2-1.given.0 ≡ marks_from 0 items = ap (take c.end-length.result.1) (c.marks-2-1.given.1.1 (sym (told.rest.row ∙ c.new-sink.ensures.row.1)) ∙ c.end-length.ensures.row)
+    let count = c.end-length.result.1 in
+    let few : count ≤ 130 = omega (arith, c.end-length.ensures.value.1, ap length told.marks, length-take 130 (marks_from 0 items)) in
+    let all : min count 130 ≡ count = omega (arith, few) in
+    let held : take c.min.result c.marks-2-1.given.0 ≡ marks_from 0 items = ap (λ k. take k c.marks-2-1.given.0) (c.min.ensures ∙ all)
+    ∙ ap (take count) (c.marks-2-1.given.1.1 (sym (told.rest.row ∙ c.new-sink.ensures.row.1)) ∙ c.end-length.ensures.row)
     ∙ c.end-length.ensures.marks
     ∙ told.marks
     ∙ take_all 130 (marks_from 0 items) (marks_within (refused i) 130 (length c.args.out.now) (line i) (λ e. (lines_bounded i e).marks)) in
     record {
-      size = c.answered.ensures.size ∙ c.end-length.ensures.value.0 ∙ ap length told.text;
-      refusal = (
-        c.answered.ensures.refusal.0 ∙ ap (λ o. (numbered o).number) told.told,
-        c.answered.ensures.refusal.1 ∙ ap (λ o. (numbered o).place) told.told,
+      text = (
+        c.answered.ensures.size ∙ c.end-length.ensures.value.0 ∙ ap length told.text,
+        subst (λ o. TellsRefusal (numbered o) c.answered.result) told.told c.answered.ensures.refusal,
       );
       column = c.answered.ensures.others.1;
       marks = c.answered.ensures.others.0 ∙ c.number_marks-written.ensures.value ∙ ap (λ ms. length (numbers_in (length c.args.row.now) ms)) held;

@@ -1,9 +1,9 @@
-use Rattle.std.proofs.Common.{length, sym, ap, ◌∙◌}
+use Rattle.std.proofs.Common.{length, sym, ap, ◌∙◌, subst}
 use Rattle.sink.specs.Outcome.{outcome}
 use Rattle.sink.specs.TextSinks.{text_meaning, TextKept, text_laws}
 use Rattle.lines.specs.Admission.{refused}
 use Rattle.lines.specs.Lines.{line}
-use Rattle.ffi.specs.Lines.{numbered, over}
+use Rattle.ffi.specs.Lines.{numbered, over, TellsRefusal}
 use Rattle.ffi.proofs.Shown.{shows, filled_over}
 use Rattle.ffi.proofs.print_text.Goals as goal
 
@@ -14,10 +14,9 @@ returns c =
     let same = c.new-sink.ensures.memory.0 in
     let told = shows text_meaning TextKept text_laws (line i) _ _ c.new-sink.result c.visit_inst-answer.new.out (outcome c.visit_inst-answer.result) (refused i) empty c.visit_inst-answer.ensures.printed_or_refused in
     record {
-      size = c.answered.ensures.size ∙ c.end-length.ensures.value ∙ ap length told.text;
-      refusal = (
-        c.answered.ensures.refusal.0 ∙ ap (λ o. (numbered o).number) told.told,
-        c.answered.ensures.refusal.1 ∙ ap (λ o. (numbered o).place) told.told,
+      text = (
+        c.answered.ensures.size ∙ c.end-length.ensures.value ∙ ap length told.text,
+        subst (λ o. TellsRefusal (numbered o) c.answered.result) told.told c.answered.ensures.refusal,
       );
       others = c.answered.ensures.others;
       memory = c.out-1.given.1.1 (sym (told.rest.memory ∙ c.new-sink.ensures.memory.1))

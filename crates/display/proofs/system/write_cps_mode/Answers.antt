@@ -1,5 +1,6 @@
-use Rattle.std.proofs.Common.{ap}
+use Rattle.std.proofs.Common.{ap, arith}
 use Rattle.sink.specs.Items.{text_items}
+use Rattle.visitor.specs.Texts.{prefixed}
 use Rattle.visitor.proofs.Pieces.{renamed, texts, text_stop}
 use Rattle.display.proofs.system.write_cps_mode.Goals as goal
 
@@ -8,4 +9,4 @@ returns-in_err-write_text g c =
     text_stop g.T.DisplaySink.laws _ _ c.from_residual.result c.in_err-write_text.field-0.0 (renamed (ap text_items c.before_mode.ensures) c.in_err-write_text.ensures.printed) c.from_residual.ensures.1
 
 pub returns : goal.returns
-returns g c = texts g.T.DisplaySink.laws _ _ (renamed (ap text_items c.before_mode.ensures) c.in_ok-write_text.ensures.printed) c.write_prefixed_u16.ensures.printed
+returns g c = texts g.T.DisplaySink.laws _ _ (renamed (ap text_items c.before_mode.ensures) c.in_ok-write_text.ensures.printed) (renamed (ap (λ n. text_items (prefixed 4 n)) c.from.ensures) (c.write_prefixed.ensures.printed 4 (omega arith) (omega arith)))

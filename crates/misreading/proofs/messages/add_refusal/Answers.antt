@@ -1,11 +1,8 @@
-use Rattle.std.proofs.Common.{◌≡◌, ◌++◌, vec_items, codes, decimal, sym, ap, ◌∙◌, append_assoc, append-nil}
+use Rattle.std.proofs.Common.{◌≡◌, ◌++◌, vec_items, codes, decimal, sym, ap, ◌∙◌, append_assoc}
 use Rattle.armv7.specs.Faults.{refusal, fault_word}
 use Rattle.misreading.specs.Messages.{refusal_text}
 use Rattle.misreading.proofs.Appends.{three_more}
 use Rattle.misreading.proofs.messages.add_refusal.Goals as goal
-
-pub returns-in-None : goal.returns-in-None
-returns-in-None c = sym (ap (λ r. vec_items c.args.text.now ++ refusal_text r) c.in-None.is ∙ append-nil _)
 
 pub returns : goal.returns
 returns c =

@@ -6,5 +6,5 @@ use Rattle.text.proofs.Chosen.{ahead}
 use Rattle.text.proofs.list.write_chosen.Given as goal
 
 -- some items are written, and with those ahead they are all
-abbrev pub invariant-loop-i : goal.invariant-loop-i
-invariant-loop-i g l = (done : List Item) × Printed g.T.DisplaySink.meaning g.T.DisplaySink.kept done l.initial.out None l.out × (done ++ ahead l.first (drop l.i all_regs) l.rest ≡ joined (map reg_items (chosen all_regs l.mask)))
+abbrev pub invariant-loop-reg : goal.invariant-loop-reg
+invariant-loop-reg g l = (done : List Item) × Printed g.T.DisplaySink.meaning g.T.DisplaySink.kept done l.initial.out None l.out × (done ++ ahead l.first (drop l.reg-index all_regs) l.rest ≡ joined (map reg_items (chosen all_regs l.mask)))

@@ -22,5 +22,5 @@ returns g c =
     let size : c.from.result * c.from-2.result ≡ c.args.scale * nat_abs z = ap₂ ◌*◌ c.from.ensures (c.from-2.ensures ∙ c.unsigned_abs.ensures.value ∙ ap nat_abs same) in
     record {
       printed = renamed (ap text_items (branch_parts c.args.scale z))
-          (texts g.T.DisplaySink.laws (way z) (prefixed 8 (c.args.scale * nat_abs z)) (renamed (ap text_items (c.direction.ensures ∙ ap way same)) c.in_ok-write_text.ensures.printed) (renamed (ap (λ n. text_items (prefixed 8 n)) size) c.write_prefixed.ensures));
+          (texts g.T.DisplaySink.laws (way z) (prefixed 8 (c.args.scale * nat_abs z)) (renamed (ap text_items (c.direction.ensures ∙ ap way same)) c.in_ok-write_text.ensures.printed) (renamed (ap (λ n. text_items (prefixed 8 n)) size) c.write_last_digits.ensures));
     }

@@ -1,4 +1,4 @@
-use Rattle.std.proofs.Common.{ℕ, Bool, cond, List, [], ◌++◌, codes, sym, ap, eq-eqb, ne_eqb}
+use Rattle.std.proofs.Common.{ℕ, Bool, cond, List, [], ◌++◌, codes, sym, ap, eq-eqb, ne_eqb, arith}
 use Rattle.sink.specs.Items.{Item, text_items}
 use Rattle.sink.proofs.Chain.{nothing}
 use Rattle.visitor.specs.Operands.{minus}
@@ -21,4 +21,4 @@ returns-in_err-write_comma g c =
 pub returns : goal.returns
 returns g c =
     renamed (ap (items c.args.add c.args.offset) (sym (ne_eqb c.args.offset 0 c.if-offset-eq0.false)))
-    (texts g.T.DisplaySink.laws (codes ", " ++ minus c.args.add) (prefixed 4 c.args.offset) c.in_ok-write_comma.ensures c.write_prefixed_u16.ensures.printed)
+    (texts g.T.DisplaySink.laws (codes ", " ++ minus c.args.add) (prefixed 4 c.args.offset) c.in_ok-write_comma.ensures (renamed (ap (λ n. text_items (prefixed 4 n)) c.from.ensures) (c.write_prefixed.ensures.printed 4 (omega arith) (omega arith))))

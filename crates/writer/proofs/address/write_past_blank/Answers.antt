@@ -1,14 +1,8 @@
-use Rattle.std.proofs.Common.{Bool, List, ◌++◌, codes, sym, ap}
-use Rattle.sink.specs.Items.{Item, text_items}
-use Rattle.visitor.specs.Operands.{minus}
+use Rattle.std.proofs.Common.{ap}
+use Rattle.sink.specs.Items.{text_items}
 use Rattle.visitor.proofs.Pieces.{renamed}
+use Rattle.writer.proofs.Choices.{past_blank}
 use Rattle.writer.proofs.address.write_past_blank.Goals as goal
 
-abbrev items : Bool → List Item
-items a = text_items (codes "], " ++ (minus a ++ codes " "))
-
-pub returns-then-add : goal.returns-then-add
-returns-then-add g c = renamed (ap items (sym c.if-add.true)) c.write_text.ensures.printed
-
-pub returns-else-add : goal.returns-else-add
-returns-else-add g c = renamed (ap items (sym c.if-add.false)) c.write_text-else-add.ensures.printed
+pub returns : goal.returns
+returns g c = renamed (ap text_items (past_blank c.args.add)) c.write_either.ensures

@@ -1,11 +1,7 @@
-use Rattle.std.proofs.Common.{refl, ap, arith}
+use Rattle.std.proofs.Common.{ap, arith}
 use Rattle.sink.specs.Meaning.{with_room}
 use Rattle.sink.proofs.Lents.{lent_length}
 use Rattle.cells.proofs.painting.CellSink.new.Goals as goal
 
-pub returns : goal.returns
-returns c = record {
-  empty = ap (λ n. with_room n 0) (lent_length c.args.cells.now (omega arith));
-  plain = refl;
-  memory = (refl, refl);
-}
+pub returns-clause-empty : goal.returns-clause-empty
+returns-clause-empty c = ap (λ n. with_room n 0) (lent_length c.args.cells.now (omega arith))

@@ -1,20 +1,22 @@
-use Rattle.std.proofs.Common.{take, refl, ◌∙◌}
+use Rattle.std.proofs.Common.{length, take, refl, ap, ◌∙◌, arith}
 use Rattle.sink.specs.Items.{text_items}
 use Rattle.sink.specs.Meaning.{room}
+use Rattle.sink.specs.Outcome.{full_below}
 use Rattle.cells.specs.CellSinks.{cell_meaning}
-use Rattle.cells.proofs.Paintings.{Painted, paint_inks, paint_meaning, paint_full, paint_filled, paint_row, paint_ink}
+use Rattle.cells.proofs.Paintings.{paint_inks, paint_meaning, paint_room, paint_row, paint_ink}
 use Rattle.cells.proofs.painting.CellSinkDisplaySink.write.Goals as goal
 
 pub returns : goal.returns
 returns c =
-    let told = c.paint-count.ensures in
+    let told = c.paint.ensures in
     let s = c.args.self.now in
     let p = c.args.piece.now in
-    let w : Painted s p c.paint-count.new.cells c.min-used.result c.paint-count.result = record { bits = told.bits; within = c.min-used.ensures; value = told.value; after = told.after } in
+    let row = text_items (take (room (cell_meaning s)) p) in
+    let inks = paint_inks s _ _ p (omega arith) told.size told.text in
     record {
-      after = paint_meaning w;
-      answer = c.told.ensures ∙ paint_full w;
-      rest = record { memory = refl; filled = paint_filled w; row = text_items (take (room (cell_meaning s)) p); inks = paint_inks w ∙ paint_row w; ink = paint_ink w };
-      inks = paint_inks w;
+      after = paint_meaning s _ _ p (omega arith) told.size told.text;
+      answer = told.answer ∙ ap (λ n. full_below n (length p)) (paint_room s _ _ p (omega arith) told.size told.text);
+      rest = record { memory = refl; filled = told.rest; row = row; inks = inks ∙ paint_row s _ _ p (omega arith) told.size told.text; ink = paint_ink s _ _ p (omega arith) told.size told.text };
+      inks = inks;
       ink = refl;
     }

@@ -1,14 +1,14 @@
-use Rattle.std.proofs.Common.{refl, arith}
+use Rattle.std.proofs.Common.{arith}
 use Rattle.sink.proofs.Lents.{front_taken, front_length}
 use Rattle.sink.proofs.marking.MarkSink.end.Goals as goal
 
-pub returns : goal.returns
-returns c =
+pub returns-clause-text : goal.returns-clause-text
+returns-clause-text c = front_taken c.args.self.buf.now c.args.self.len (omega arith)
+
+pub returns-clause-marks : goal.returns-clause-marks
+returns-clause-marks c = front_taken c.args.self.row.now c.args.self.count (omega arith)
+
+pub returns-clause-value : goal.returns-clause-value
+returns-clause-value c =
     let s = c.args.self in
-    record {
-      memory = refl;
-      row = refl;
-      text = front_taken s.buf.now s.len _ (omega arith) c.min.ensures;
-      marks = front_taken s.row.now s.count _ (omega arith) c.min-2.ensures;
-      value = (front_length s.buf.now s.len _ (omega arith) c.min.ensures, front_length s.row.now s.count _ (omega arith) c.min-2.ensures);
-    }
+    (front_length s.buf.now s.len (omega arith) s.within, front_length s.row.now s.count (omega arith) s.row_within)

@@ -1,26 +1,25 @@
-use Rattle.std.proofs.Common.{ℕ, cond, ltb, List, [], ◌∷◌, ◌++◌, length, refl, ap, ◌∙◌, ap₂, arith}
+use Rattle.std.proofs.Common.{ℕ, cond, ltb, List, [], ◌∷◌, ◌++◌, length, ap, ◌∙◌, ap₂, arith}
 use Rattle.sink.specs.declared.sink.Mark.{Mark}
-use Rattle.sink.specs.Lent.{filled_none, lent_within}
+use Rattle.sink.specs.Lent.{lent_within}
 use Rattle.sink.specs.Meaning.{Meaning}
 use Rattle.sink.specs.MarkSinks.{mark_meaning}
-use Rattle.sink.proofs.Lents.{Write, write_limit, write_text, write_filled, one_more, front_length}
+use Rattle.sink.proofs.Lents.{write_limit, write_text, one_more, front_length}
 use Rattle.sink.proofs.marking.MarkSink.mark.Goals as goal
 
 -- a sink's meaning at other marks and another limit of them
 holding : Meaning → List Mark → ℕ → Meaning
 holding m ms l = record { text = m.text; limit = m.limit; marks = ms; mark_limit = l }
 
-pub returns : goal.returns
+pub returns-clause-after : goal.returns-clause-after
 unfolding holding
-returns c =
-    let told = c.append.ensures in
-    let before = c.args.self.now in
+returns-clause-after c =
+    let s = c.args.self.now in
+    let told = c.push.ensures in
     let mark : ℕ → Mark = λ n. record { edge = c.args.edge; span = c.args.span; at = n } in
-    let place = front_length before.buf.now before.len _ (omega arith) c.min-at.ensures in
-    let marks = (mark_meaning before).marks in
-    let limit = (mark_meaning before).mark_limit in
-    let w : Write before.row.now before.count (mark c.min-at.result ∷ []) c.append.new.memory c.min-used.result c.append.result = record { bits = told.bits; within = c.min-used.ensures; value = told.value; after = told.after } in
-    record {
-      after = ap₂ (holding (mark_meaning before)) (write_text w ∙ one_more _ _ _ (lent_within before.count before.row.now) ∙ ap (λ n. cond (ltb (length marks) limit) (marks ++ mark n ∷ []) marks) place) (write_limit w);
-      rest = record { memory = refl; filled = filled_none _ _; row = refl; row_filled = write_filled w };
-    }
+    let marks = (mark_meaning s).marks in
+    let limit = (mark_meaning s).mark_limit in
+    ap₂ (holding (mark_meaning s))
+    (write_text s.row.now _ (mark s.len ∷ []) s.count _ (omega arith) s.row_within told.size told.text
+    ∙ one_more _ _ _ (lent_within s.count s.row.now)
+    ∙ ap (λ n. cond (ltb (length marks) limit) (marks ++ mark n ∷ []) marks) (front_length s.buf.now s.len (omega arith) s.within))
+    (write_limit s.row.now _ (mark s.len ∷ []) s.count c.push.new.used (omega arith) s.row_within told.size)

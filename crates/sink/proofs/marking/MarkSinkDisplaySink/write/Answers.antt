@@ -1,22 +1,22 @@
-use Rattle.std.proofs.Common.{ℕ, List, refl, ◌∙◌, ap₂}
-use Rattle.sink.specs.Lent.{filled_none}
+use Rattle.std.proofs.Common.{ℕ, List, length, ap, ◌∙◌, ap₂, arith}
 use Rattle.sink.specs.Meaning.{Meaning}
+use Rattle.sink.specs.Outcome.{full_below}
 use Rattle.sink.specs.MarkSinks.{mark_meaning}
-use Rattle.sink.proofs.Lents.{Write, write_limit, write_text, write_filled, write_full}
+use Rattle.sink.proofs.Lents.{write_limit, write_text, room_left}
 use Rattle.sink.proofs.marking.MarkSinkDisplaySink.write.Goals as goal
 
 -- a sink's meaning at another text and limit
 holding : Meaning → List ℕ → ℕ → Meaning
 holding m t l = record { text = t; limit = l; marks = m.marks; mark_limit = m.mark_limit }
 
-pub returns : goal.returns
+pub returns-clause-after : goal.returns-clause-after
 unfolding holding
-returns c =
-    let told = c.append-count.ensures in
-    let before = c.args.self.now in
-    let w : Write before.buf.now before.len c.args.piece.now c.append-count.new.memory c.min-used.result c.append-count.result = record { bits = told.bits; within = c.min-used.ensures; value = told.value; after = told.after } in
-    record {
-      after = ap₂ (holding (mark_meaning before)) (write_text w) (write_limit w);
-      answer = c.told.ensures ∙ write_full w;
-      rest = record { memory = refl; filled = write_filled w; row = refl; row_filled = filled_none _ _ };
-    }
+returns-clause-after c =
+    let s = c.args.self.now in
+    let told = c.append.ensures in
+    ap₂ (holding (mark_meaning s)) (write_text s.buf.now _ c.args.piece.now s.len _ (omega arith) s.within told.size told.text) (write_limit s.buf.now _ c.args.piece.now s.len c.append.new.used (omega arith) s.within told.size)
+
+pub returns-clause-answer : goal.returns-clause-answer
+returns-clause-answer c =
+    let s = c.args.self.now in
+    c.append.ensures.answer ∙ ap (λ n. full_below n (length c.args.piece.now)) (room_left s.buf.now s.len (omega arith) s.within)

@@ -1,0 +1,34 @@
+-- One of two texts by a flag, and a shift by an amount. Assumes nothing.
+use Rattle.std.proofs.Common.{◌≡◌, ℕ, Bool, true, false, cond, List, [], ◌++◌, codes, sym, refl, ap, ne_eqb}
+use Rattle.armv7.specs.declared.shift.ShiftStyle.{ShiftStyle}
+use Rattle.armv7.specs.declared.shift.ShiftStyle.TheVariants.{LSL, LSR, ASR, ROR}
+use Rattle.armv7.specs.Shifts.{style_name}
+use Rattle.visitor.specs.Operands.{bang, minus}
+use Rattle.visitor.specs.Texts.{amount_text, decimal}
+
+pub close : (w : Bool) → cond w (codes "]!") (codes "]") ≡ codes "]" ++ bang w
+close true = refl
+close false = refl
+
+pub comma : (a : Bool) → cond a (codes ", ") (codes ", -") ≡ codes ", " ++ minus a
+comma true = refl
+comma false = refl
+
+pub past : (a : Bool) → cond a (codes "], ") (codes "], -") ≡ codes "], " ++ minus a
+past true = refl
+past false = refl
+
+pub past_blank : (a : Bool) → cond a (codes "],  ") (codes "], - ") ≡ codes "], " ++ (minus a ++ codes " ")
+past_blank true = refl
+past_blank false = refl
+
+-- the word of a kind
+abbrev pub word_of : ShiftStyle → List ℕ
+word_of s = codes ", " ++ (style_name s ++ codes " ")
+
+-- an amount above 0
+pub counted : (s : ShiftStyle) (n : ℕ) → (n ≡ 0 → ⊥) → word_of s ++ decimal n ≡ amount_text s n
+counted LSL n h = sym (ap (λ t. cond t [] (codes ", lsl " ++ decimal n)) (ne_eqb n 0 h))
+counted LSR n h = sym (ap (λ t. codes ", lsr " ++ decimal (cond t 32 n)) (ne_eqb n 0 h))
+counted ASR n h = sym (ap (λ t. codes ", asr " ++ decimal (cond t 32 n)) (ne_eqb n 0 h))
+counted ROR n h = sym (ap (λ t. cond t (codes ", rrx") (codes ", ror " ++ decimal n)) (ne_eqb n 0 h))
