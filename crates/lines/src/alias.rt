@@ -18,7 +18,7 @@ pub fn stack_register(load: bool, operands: &[Operand; 4]) -> Option<Reg>
     match second {
         Operand::RegDerefPostindexOffset(base, offset, add, wback)
             if load
-                && base.number() == 13
+                && base == Reg::R13
                 && offset == 4
                 && add
                 && !wback
@@ -26,7 +26,7 @@ pub fn stack_register(load: bool, operands: &[Operand; 4]) -> Option<Reg>
                 && is_nothing(fourth) => Some(target),
         Operand::RegDerefPreindexOffset(base, offset, add, wback)
             if !load
-                && base.number() == 13
+                && base == Reg::R13
                 && offset == 4
                 && !add
                 && wback
@@ -47,7 +47,7 @@ fn is_stack_way(load: bool, add: bool, pre: bool) -> bool
 pub fn stacks(transfer: Transfer, base: Reg, wback: bool) -> bool
     ensures value { result ≡ on_stack transfer base wback }
 {
-    let on_sp = base.number() == 13 && wback;
+    let on_sp = base == Reg::R13 && wback;
     is_stack_way(transfer.load, transfer.add, transfer.pre)
         && !transfer.wback
         && !transfer.user
