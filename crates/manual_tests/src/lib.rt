@@ -34,27 +34,16 @@ mod tests {
     }
 
     fn number(answer: Result<(), Fault>) -> u8 {
-        match answer {
-            Ok(()) => 0,
-            Err(fault) => fault.number(),
-        }
+        answer.map_or_else(|fault| fault.number(), |()| 0)
     }
 
     // The inks of the cells, by number.
-    fn inks(cells: &[Cell; 8]) -> [u8; 8] {
-        let mut numbers = [0u8; 8];
-        for i in 0..8 {
-            numbers[i] = cells[i].ink.number();
-        }
-        numbers
+    fn inks(cells: [Cell; 8]) -> [u8; 8] {
+        cells.map(|cell| cell.ink.number())
     }
 
-    fn text(cells: &[Cell; 8]) -> [u8; 8] {
-        let mut bytes = [0u8; 8];
-        for i in 0..8 {
-            bytes[i] = cells[i].byte;
-        }
-        bytes
+    fn text(cells: [Cell; 8]) -> [u8; 8] {
+        cells.map(|cell| cell.byte)
     }
 
     #[test]
@@ -63,8 +52,8 @@ mod tests {
         let mut out = CellSink::new(&mut cells);
         assert_eq!(rt; number(visit_inst(&pop_one(4), &mut out)), 0);
         assert_eq!(rt; out.end(), 8);
-        assert!(rt; text(&cells) == *b"pop {r3}");
-        assert!(rt; inks(&cells) == [1, 1, 1, 0, 0, 2, 2, 0]);
+        assert!(rt; text(cells) == *b"pop {r3}");
+        assert!(rt; inks(cells) == [1, 1, 1, 0, 0, 2, 2, 0]);
     }
 
     #[test]
@@ -73,7 +62,7 @@ mod tests {
         let mut out = CellSink::new(&mut cells);
         assert_eq!(rt; number(visit_manual(&pop_one(8), &mut out)), 11);
         assert_eq!(rt; out.end(), 0);
-        assert!(rt; text(&cells) == *b"        ");
+        assert!(rt; text(cells) == *b"        ");
     }
 
     #[test]
@@ -87,7 +76,7 @@ mod tests {
         );
         assert_eq!(rt; number(visit_manual(&instruction, &mut out)), 9);
         assert_eq!(rt; out.end(), 8);
-        assert!(rt; text(&cells) == *b"ldm sp!,");
-        assert!(rt; inks(&cells) == [1, 1, 1, 0, 2, 2, 0, 0]);
+        assert!(rt; text(cells) == *b"ldm sp!,");
+        assert!(rt; inks(cells) == [1, 1, 1, 0, 2, 2, 0, 0]);
     }
 }

@@ -2,6 +2,7 @@
 use anyhow::anyhow;
 use std::env;
 
+// Kept: a flag for each option, since each is given or not, by itself, and nothing else is told of it.
 #[derive(Drop)]
 pub struct Options {
     pub help: bool,
@@ -21,10 +22,8 @@ enum Next {
 }
 
 fn room_of(word: &str) -> anyhow::Result<usize> {
-    match word.parse::<usize>() {
-        Ok(room) => Ok(room),
-        Err(_) => Err(anyhow!("--room wants a number of bytes")),
-    }
+    word.parse()
+        .map_err(|_| anyhow!("--room wants a number of bytes"))
 }
 
 impl Options {

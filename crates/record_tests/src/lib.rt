@@ -29,20 +29,12 @@ mod tests {
     ];
 
     fn column(line: &[u8]) -> usize {
-        match read_line(line) {
-            Ok(_) => 0,
-            Err(misread) => misread.column,
-        }
+        read_line(line).map_or_else(|misread| misread.column, |_| 0)
     }
 
     fn refusal(line: &[u8]) -> u8 {
-        match read_line(line) {
-            Ok(_) => 0,
-            Err(misread) => match misread.refusal {
-                Some(fault) => fault.number(),
-                None => 0,
-            },
-        }
+        let refused = read_line(line).err().and_then(|misread| misread.refusal);
+        refused.map_or(0, |fault| fault.number())
     }
 
     #[test]
