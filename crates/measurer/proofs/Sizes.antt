@@ -1,5 +1,6 @@
 -- How many bytes the text of an operand has, from the sizes of its parts. Assumes nothing.
-use Rattle.std.proofs.Common.{◌≡◌, ℕ, zero, suc, ◌+◌, ◌*◌, ◌/◌, ◌%◌, ◌^◌, ◌<◌, ◌≤◌, Bool, true, false, cond, not, ltb, List, [], ◌∷◌, ◌++◌, length, ℤ, pos, negsuc, nat_abs, codes, refl, ap, ◌∙◌, ap₂, not-suc-le-zero, pow-suc, arith, length-append, le-ltb, lt-ltb, ne_eqb}
+use Rattle.std.proofs.Common.{◌≡◌, ℕ, zero, suc, ◌+◌, ◌*◌, ◌/◌, ◌%◌, ◌^◌, ◌<◌, ◌≤◌, Bool, true, false, cond, not, ltb, List, [], ◌∷◌, ◌++◌, length, ℤ, pos, negsuc, nat_abs, codes, sym, refl, ap, ◌∙◌, ap₂, not-suc-le-zero, pow-suc, arith, length-append, le-ltb, lt-ltb, ne_eqb}
+use Rattle.std.proofs.Math.Pow.{pow_mono}
 use Rattle.std.proofs.lemmas.Nat.{div_below, le-div}
 use Rattle.armv7.specs.declared.bank.Bank.{Bank}
 use Rattle.armv7.specs.declared.bank.Bank.TheVariants.{Usr, Fiq, Irq, Svc, Abt, Und, Mon, Hyp}
@@ -83,6 +84,30 @@ hex_length (suc d) (suc k) n low high some fits =
     ∙ length-append (hex_digits k (n / 16)) _
     ∙ ap (λ m. m + 1) (hex_length d k (n / 16) (λ _. le-div (16 ^ d) n 16 (omega arith) least) (div_below n 16 (16 ^ suc d) (omega arith) (omega (arith, high, pow-suc 16 (suc d)))) (some_left k n large fits) (div_below n 16 (16 ^ k) (omega arith) (omega (arith, fits, pow-suc 16 k))))
     ∙ omega arith
+
+power_of_two : (d : ℕ) → 16 ^ d ≡ 2 ^ (d * 4)
+power_of_two zero = refl
+power_of_two (suc d) =
+    let k = d * 4 in
+    let four : suc d * 4 ≡ suc (suc (suc (suc k))) = omega arith in
+    let step : 16 ^ suc d ≡ 2 ^ suc (suc (suc (suc k))) = omega (arith, power_of_two d, pow-suc 16 d, pow-suc 2 k, pow-suc 2 (suc k), pow-suc 2 (suc (suc k)), pow-suc 2 (suc (suc (suc k)))) in
+    step ∙ ap (λ j. 2 ^ j) (sym four)
+
+-- a number's digits in base 16, by the power of 2 below it, or below 1 where it is 0
+pub log_length : (e k n m : ℕ) → 2 ^ e ≤ m → m < 2 * 2 ^ e → n ≤ m → (1 < m → m ≤ n) → 0 < k → n < 16 ^ k → length (hex_digits k n) ≡ suc (e / 4)
+log_length e k n m least most above same some fits = hex_length (e / 4) k n low high some fits
+  where
+    low : 0 < e / 4 → 16 ^ (e / 4) ≤ n
+    low h =
+        let large : 2 ^ 4 ≤ 2 ^ e = pow_mono {i = 4} {j = e} (omega arith) in
+        let below : 2 ^ (e / 4 * 4) ≤ 2 ^ e = pow_mono {i = e / 4 * 4} {j = e} (omega arith) in
+        let whole : m ≤ n = same (omega arith) in
+        omega (arith, power_of_two (e / 4), below, whole)
+
+    high : n < 16 ^ suc (e / 4)
+    high =
+        let above_all : 2 ^ suc e ≤ 2 ^ (suc (e / 4) * 4) = pow_mono {i = suc e} {j = suc (e / 4) * 4} (omega arith) in
+        omega (arith, power_of_two (suc (e / 4)), above_all, pow-suc 2 e)
 
 pub offset_length : (a : Bool) (n : ℕ) → (n ≡ 0 → ⊥) → length (offset_text a n) ≡ 2 + (cond (not a) 1 0 + length (prefixed 4 n))
 offset_length a n h =

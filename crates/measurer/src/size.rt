@@ -35,23 +35,7 @@ pub(crate) fn prefixed_size(number: u32) -> usize
     ensures value { (k : ℕ) → 0 < k → number < 16 ^ k → result ≡ length (prefixed k number) }
     ensures bound { result ≤ 10 }
 {
-    if number < 0x10 {
-        3
-    } else if number < 0x100 {
-        4
-    } else if number < 0x1000 {
-        5
-    } else if number < 0x1_0000 {
-        6
-    } else if number < 0x10_0000 {
-        7
-    } else if number < 0x100_0000 {
-        8
-    } else if number < 0x1000_0000 {
-        9
-    } else {
-        10
-    }
+    3 + (number.max(1).ilog2() / 4) as usize
 }
 
 // Four bytes for each register, and one more for `r10`; the braces take the place of the comma that the first one has not.
