@@ -76,6 +76,7 @@ pub(crate) fn write_cps<T: DisplaySink>(
     ensures { Printed T.meaning T.kept (behind_word (flag_row flags ++ mode_rows mode)) out.old (outcome result) out.new }
 {
     write_cps_flags(flags, out)?;
+    // Kept: a map_or would carry the sink into a closure.
     match mode {
         Some(number) => write_cps_mode(flags, number, out),
         None => Ok(()),

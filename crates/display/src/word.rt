@@ -102,6 +102,7 @@ fn write_it_mnemonic<T: DisplaySink>(
 }
 
 // The mnemonic of an IT block with its suffix and letters.
+// Kept: write_word with letters that may be missing would ask at each word what only IT has.
 fn write_it_word<T: DisplaySink>(
     name: &[u8],
     suffix: Suffix,

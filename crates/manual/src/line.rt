@@ -54,6 +54,7 @@ fn write_block_line<T: DisplaySink>(block: Block, suffix: Suffix, out: &mut T) -
 }
 
 // The one register of a pop or a push.
+// Kept: the printer's lies in two spans, and this one in one.
 fn write_one<T: DisplaySink>(reg: Reg, out: &mut T) -> Result<(), Fault>
     ensures { Printed T.meaning T.kept (behind_word (one_row reg ∷ [])) out.old (outcome result) out.new }
 {
