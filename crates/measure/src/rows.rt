@@ -9,11 +9,10 @@ ghost use Rattle.lines.specs.Codes.{mode_rows};
 ghost use Rattle.lines.specs.Lines.{code_row, code_rows, flag_row};
 ghost use Rattle.lines.specs.Forms.{block_rows as rows_of_block, rows_of};
 
-use crate::word::flagged_size;
 use armv7::Operand;
 use kind::Codes;
 use lines::{Block, Form, Reached};
-use measurer::measure;
+use measurer::{decimal_size, flag_size, measure};
 
 // The measurer refuses only what has no text.
 fn operand_size(operand: Operand) -> usize
@@ -36,14 +35,6 @@ fn operand_rows(reached: Reached<'_>) -> usize
         size += 2 + operand_size(*operand);
     }
     size
-}
-
-// As in measurer, which keeps its own to itself.
-fn decimal_size(number: u8) -> usize
-    ensures value { result ≡ length (decimal number) }
-    ensures bound { result ≤ 2 }
-{
-    if number < 10 { 1 } else { 2 }
 }
 
 // A code, where there is one.
@@ -82,7 +73,7 @@ fn block_rows(block: Block) -> usize
 {
     2 + operand_size(Operand::RegWBack(block.base, block.wback))
         + list_row(block.mask)
-        + flagged_size(block.transfer.user, 1)
+        + flag_size(block.transfer.user)
 }
 
 // The interrupts that a CPS switches, where there are any.
@@ -93,9 +84,7 @@ fn flags_size(flags: u16) -> usize
     if flags == 0 {
         return 0;
     }
-    2 + flagged_size(flags / 4 % 2 == 1, 1)
-        + flagged_size(flags / 2 % 2 == 1, 1)
-        + flagged_size(flags % 2 == 1, 1)
+    2 + flag_size(flags / 4 % 2 == 1) + flag_size(flags / 2 % 2 == 1) + flag_size(flags % 2 == 1)
 }
 
 // The mode that a CPS changes to, where there is one.

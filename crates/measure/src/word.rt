@@ -5,30 +5,21 @@ ghost use Rattle.lines.specs.Forms.{suffix_text, word_of};
 
 use armv7::{ConditionCode, Instruction};
 use lines::{Form, Suffix, letter_count, stack_word};
-
-// The size of a text that stands only under a flag.
-pub(crate) fn flagged_size(flag: bool, size: usize) -> usize
-    ensures { result ≡ (if flag then size else 0) }
-{
-    if flag { size } else { 0 }
-}
+use measurer::flag_size;
 
 // AL has no letters, and each other condition two.
 fn condition_size(condition: ConditionCode) -> usize
     ensures value { result ≡ length (condition_suffix condition) }
     ensures bound { result ≤ 2 }
 {
-    match condition {
-        ConditionCode::AL => 0,
-        _ => 2,
-    }
+    if condition == ConditionCode::AL { 0 } else { 2 }
 }
 
 fn suffix_size(suffix: Suffix) -> usize
     ensures value { result ≡ length (suffix_text suffix) }
     ensures bound { result ≤ 5 }
 {
-    flagged_size(suffix.s, 1) + condition_size(suffix.condition) + flagged_size(suffix.w, 2)
+    flag_size(suffix.s) + condition_size(suffix.condition) + 2 * flag_size(suffix.w)
 }
 
 // The name that is shown, and what stands behind it.
