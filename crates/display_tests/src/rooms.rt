@@ -66,25 +66,20 @@ fn seen(mark: Mark) -> (bool, bool, usize) {
 // The number of the answer, and how many bytes and marks there are.
 fn marked(instruction: &Instruction, buf: &mut [u8], row: &mut [Mark]) -> (u8, usize, usize) {
     let mut out = MarkSink::new(buf, row);
-    let number = match visit_inst(instruction, &mut out) {
-        Ok(()) => 0,
-        Err(fault) => fault.number(),
-    };
+    let number = visit_inst(instruction, &mut out).map_or_else(|fault| fault.number(), |()| 0);
     let (size, count) = out.end();
     (number, size, count)
 }
 
 fn written(instruction: &Instruction, buf: &mut [u8]) -> (u8, usize) {
     let mut out = TextSink::new(buf);
-    let number = match visit_inst(instruction, &mut out) {
-        Ok(()) => 0,
-        Err(fault) => fault.number(),
-    };
+    let number = visit_inst(instruction, &mut out).map_or_else(|fault| fault.number(), |()| 0);
     (number, out.end())
 }
 
 #[test]
 fn text_stops_where_the_room_ends(rt: HostRuntime) {
+    // Kept: the room counts the rows, since a zip with them left open that it is within the memory.
     for room in 13..16 {
         let (number, size, _, memory) = HELD[room - 13];
         let mut buf = [b'-'; 16];
@@ -95,6 +90,7 @@ fn text_stops_where_the_room_ends(rt: HostRuntime) {
 
 #[test]
 fn marks_stop_with_the_text(rt: HostRuntime) {
+    // Kept: as above.
     for room in 13..16 {
         let (number, size, count, memory) = HELD[room - 13];
         let mut buf = [b'-'; 16];
@@ -104,13 +100,13 @@ fn marks_stop_with_the_text(rt: HostRuntime) {
             (number, size, count)
         );
         assert!(rt; buf == memory);
-        for place in 0..8 {
-            let mark = if place < count {
-                MARKS[place]
+        for ((place, mark), written) in row.iter().enumerate().zip(MARKS) {
+            let expected = if place < count {
+                written
             } else {
                 seen(NO_MARK)
             };
-            assert_eq!(rt; seen(row[place]), mark);
+            assert_eq!(rt; seen(*mark), expected);
         }
     }
 }

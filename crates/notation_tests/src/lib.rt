@@ -65,13 +65,11 @@ mod tests {
     ];
 
     fn tells(heap: Global, line: &[u8], text: &[u8]) -> Result<bool, AllocError> {
-        match read_line(line) {
-            Ok(_) => Ok(false),
-            Err(misread) => {
-                let told = message(heap, 7, &misread)?;
-                Ok(told.as_slice() == text)
-            }
-        }
+        let Err(misread) = read_line(line) else {
+            return Ok(false);
+        };
+        let told = message(heap, 7, &misread)?;
+        Ok(told.as_slice() == text)
     }
 
     #[test]

@@ -120,7 +120,7 @@ mod tests {
         let closed = run(out, &mut entries);
         assert_eq!(rt; closed.end().end(), (16, 4));
         assert!(rt; memory == *b"ab\npop {r4, pc}\n");
-        assert_eq!(rt; (row[0].at, row[1].at, row[2].at, row[3].at), (3, 3, 6, 8));
+        assert!(rt; row.map(|mark| mark.at) == [3, 3, 6, 8]);
         assert_eq!(rt; told(&entries[0]), (1, 0, 0));
     }
 
