@@ -37,16 +37,16 @@ const HELD: [(u8, usize, usize, [u8; 16]); 3] = [
     (0, 14, 8, *b"add r0, r1, r2--"),
 ];
 
-// Each mark: is it a start, is it of an opcode, and where does it fall?
-const MARKS: [(bool, bool, usize); 8] = [
-    (true, true, 0),
-    (false, true, 3),
-    (true, false, 4),
-    (false, false, 6),
-    (true, false, 8),
-    (false, false, 10),
-    (true, false, 12),
-    (false, false, 14),
+// Each mark, and where it falls.
+const MARKS: [(Edge, Span, usize); 8] = [
+    (Edge::Start, Span::Opcode, 0),
+    (Edge::End, Span::Opcode, 3),
+    (Edge::Start, Span::Register, 4),
+    (Edge::End, Span::Register, 6),
+    (Edge::Start, Span::Register, 8),
+    (Edge::End, Span::Register, 10),
+    (Edge::Start, Span::Register, 12),
+    (Edge::End, Span::Register, 14),
 ];
 
 const NO_MARK: Mark = Mark {
@@ -55,12 +55,8 @@ const NO_MARK: Mark = Mark {
     at: 99,
 };
 
-fn seen(mark: Mark) -> (bool, bool, usize) {
-    (
-        matches!(mark.edge, Edge::Start),
-        matches!(mark.span, Span::Opcode),
-        mark.at,
-    )
+fn seen(mark: Mark) -> (Edge, Span, usize) {
+    (mark.edge, mark.span, mark.at)
 }
 
 // The number of the answer, and how many bytes and marks there are.
@@ -106,7 +102,7 @@ fn marks_stop_with_the_text(rt: HostRuntime) {
             } else {
                 seen(NO_MARK)
             };
-            assert_eq!(rt; seen(*mark), expected);
+            assert!(rt; seen(*mark) == expected);
         }
     }
 }

@@ -25,13 +25,13 @@ fn turn_to(ink: Ink) -> &'static str {
 fn push_cells(text: &mut String, cells: &[Cell]) -> Result<(), AllocError> {
     let mut ink = Ink::Plain;
     for cell in cells {
-        if cell.ink.number() != ink.number() {
+        if cell.ink != ink {
             ink = cell.ink;
             text.push_str(turn_to(ink))?;
         }
         text.push(char::from(cell.byte))?;
     }
-    if ink.number() != Ink::Plain.number() {
+    if ink != Ink::Plain {
         text.push_str(turn_to(Ink::Plain))?;
     }
     Ok(())

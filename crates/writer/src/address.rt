@@ -29,7 +29,7 @@ fn write_either<T: DisplaySink>(
     }
 }
 
-// Kept: an empty text in place of none would be one call of the sink more.
+// Kept: with write_either an empty text would stand for none, which says less plainly that nothing is written.
 fn write_bang<T: DisplaySink>(out: &mut T, wback: bool) -> Result<(), Fault>
     ensures { Printed T.meaning T.kept (text_items (bang wback)) out.old (outcome result) out.new }
 {
