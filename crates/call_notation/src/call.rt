@@ -10,6 +10,7 @@ use misreading::{Expected, Given};
 use notation::{Cursor, Slip};
 
 // What the first word of a line says of it.
+// Kept: names in place of functions in a table, since a name needs no clause of its own, and a function in a table would.
 #[derive(Clone, Copy)]
 pub enum Start {
     Nothing,

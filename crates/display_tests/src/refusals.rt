@@ -78,6 +78,7 @@ const REFUSED: [(Opcode, [Operand; 4], (u8, u8)); 15] = [
 // Opcodes of which each operand before the first Nothing is looked at.
 const REACHING: [Opcode; 4] = [Opcode::ADD, Opcode::LDR, Opcode::STR, Opcode::MCRR(0, 0)];
 
+// Kept: each crate of tests makes its instructions, and none hands code to another.
 fn made(opcode: Opcode, operands: [Operand; 4]) -> Instruction {
     Instruction {
         condition: ConditionCode::AL,
@@ -90,6 +91,7 @@ fn made(opcode: Opcode, operands: [Operand; 4]) -> Instruction {
     }
 }
 
+// Kept: numbers, which are what the rules give a refusal.
 fn told(fault: Fault) -> (u8, u8) {
     (fault.number(), fault.place())
 }
@@ -125,6 +127,7 @@ fn operands_are_refused_at_each_place(rt: HostRuntime) -> Result<(), Fail> {
         (Operand::BranchOffset(536_870_912), 8),
     ];
     for opcode in REACHING {
+        // Kept: the place is a number here, as the refusal tells it.
         for place in 0..4u8 {
             for (operand, number) in refused {
                 let mut operands = [R0; 4];

@@ -12,6 +12,7 @@ use display::visit_inst;
 use sink::{Edge, Mark, MarkSink, Span, TextSink};
 
 // What came of a call.
+// Kept: numbers, since a program in C reads them.
 #[repr(C)]
 #[derive(Clone, Copy)]
 pub struct Answer {

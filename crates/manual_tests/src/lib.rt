@@ -13,6 +13,7 @@ mod tests {
         ink: Ink::Plain,
     };
 
+    // Kept: each crate of tests makes its instructions, and none hands code to another.
     fn made(opcode: Opcode, first: Operand, second: Operand) -> Instruction {
         Instruction {
             condition: ConditionCode::AL,
@@ -33,6 +34,7 @@ mod tests {
         )
     }
 
+    // Kept: the number, which is what the rules give a refusal.
     fn number(answer: Result<(), Fault>) -> u8 {
         answer.map_or_else(|fault| fault.number(), |()| 0)
     }

@@ -15,6 +15,7 @@ use lines::{Block, Form, Reached};
 use measurer::{decimal_size, flag_size, measure};
 
 // The measurer refuses only what has no text.
+// Kept: taken apart here once, since otherwise every size would be a Result in vain.
 fn operand_size(operand: Operand) -> usize
     requires { HasText operand }
     ensures value { result ≡ length (bytes (operand_items operand)) }

@@ -90,6 +90,7 @@ impl OperandVisitor for Measurer {
         Ok(4 + reg_size(base) + flag_size(!add) + reg_size(offset) + flag_size(wback))
     }
 
+    // Kept: as long as the one behind the address, but of another text, and a size is plainer than a call of that one.
     fn visit_reg_deref_preindex_reg(
         &mut self,
         base: Reg,

@@ -6,6 +6,7 @@ use crate::misread::{Expected, Misread};
 use armv7::Fault;
 use std::alloc::{AllocError, Global};
 
+// Kept: the digits stand in text too, which this crate does not stand on.
 const HEX: [u8; 16] = *b"0123456789abcdef";
 
 // A token, or that the line ends there.
@@ -46,6 +47,7 @@ impl Expected {
 
 // What is said of the line with this number: where it cannot be read, what was expected there and what was found, of which
 // a byte that is not printable is told by its number.
+// Kept: bytes in place of a Display, as in record, whose found bytes need be no text.
 pub fn message(heap: Global, line: u64, misread: &Misread<'_>) -> Result<Vec<u8>, AllocError>
     ensures text { IfOk result (λ v. v.items ≡ message_of line misread.now) }
 {

@@ -126,6 +126,7 @@ impl Part for bool {
     }
 }
 
+// Kept: three widths by hand, since each has its own words for what was expected, and all they share is one call.
 impl Part for u8 {
     ghost parser = { number AnyCode 255 };
 

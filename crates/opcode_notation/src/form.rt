@@ -1,4 +1,5 @@
 // The opcodes that are told more in parentheses, by what stands there.
+// Kept: kinds in place of functions in a table, since a kind needs no clause of its own, and a function in a table would.
 ghost use Rattle.std.specs.Prelude.{◌≡◌};
 ghost use Rattle.opcode_notation.specs.Opcodes.{one_flag, two_flags, four_flags, one_code, two_codes, three_codes};
 
@@ -72,6 +73,7 @@ pub enum Form {
     Operation(ThreeCodes),
 }
 
+// Kept: a method for each kind, since they take other values and other numbers of them.
 impl OneFlag {
     pub(crate) fn with(self, a: bool) -> Opcode
         ensures { result ≡ one_flag self a }

@@ -9,6 +9,7 @@ use misreading::{Expected, Given};
 use notation::{Cursor, Slip};
 
 // Operands, by what they are.
+// Kept: names in place of functions in a table, since a name needs no clause of its own, and a function in a table would.
 #[derive(Clone, Copy)]
 pub enum Name {
     Register,

@@ -46,8 +46,8 @@ pub(crate) fn push_coloured(
     let mut out = CellSink::new(&mut memory);
     let answer = visit_inst(instruction, &mut out);
     let end = out.end();
-    match answer {
-        Ok(()) => push_cells(text, &memory[0..end.min(LINE)]),
-        Err(_) => Ok(()),
+    if answer.is_err() {
+        return Ok(());
     }
+    push_cells(text, &memory[..end.min(LINE)])
 }

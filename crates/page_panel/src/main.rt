@@ -29,6 +29,7 @@ Lines that cannot be read are told on standard error, and the program then ends 
 ";
 
 // The bytes of the record: a failing controller may leave any.
+// Kept: panel reads text, and shows another account.
 fn record_of(rt: &HostRuntime, options: &Options) -> anyhow::Result<Vec<u8>> {
     match &options.file {
         Some(path) => Ok(fs::read(rt, path.as_str())?),

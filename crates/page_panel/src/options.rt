@@ -15,6 +15,7 @@ pub struct Options {
 }
 
 // How the next word of the command is to be read.
+// Kept: a `for` over the words ends by itself, and takes one word at a time.
 #[derive(Clone, Copy)]
 enum Next {
     Option,

@@ -15,8 +15,8 @@ pub(crate) fn push_manual(text: &mut String, instruction: &Instruction) -> Resul
     let mut out = TextSink::new(&mut memory);
     let answer = visit_manual(instruction, &mut out);
     let end = out.end();
-    match answer {
-        Ok(()) => write!(text, "  manual: {}", Characters(&memory[..end.min(LINE)])),
-        Err(_) => Ok(()),
+    if answer.is_err() {
+        return Ok(());
     }
+    write!(text, "  manual: {}", Characters(&memory[..end.min(LINE)]))
 }

@@ -8,6 +8,7 @@ mod tests {
     use runs::run;
     use sink::{DisplaySink, Edge, Mark, MarkSink, Span, TextSink};
 
+    // Kept: each crate of tests has its own, and none hands code to another.
     const NO_MARK: Mark = Mark {
         edge: Edge::Start,
         span: Span::Opcode,
@@ -54,6 +55,7 @@ mod tests {
     }
 
     // The count, and the number and the place of a refusal.
+    // Kept: numbers, which are what the rules give a refusal.
     fn told(entry: &Entry) -> (u64, u8, u8) {
         match entry.answer {
             Ok(count) => (count, 0, 0),

@@ -32,6 +32,7 @@ mod tests {
         read_line(line).map_or_else(|misread| misread.column, |_| 0)
     }
 
+    // Kept: the number, which is what the rules give a refusal.
     fn refusal(line: &[u8]) -> u8 {
         let refused = read_line(line).err().and_then(|misread| misread.refusal);
         refused.map_or(0, |fault| fault.number())
