@@ -15,8 +15,20 @@ fn place<T: Copy>(memory: &mut [T], used: &mut usize, piece: &[T])
     ensures text { take used.new memory.new ≡ take used.old memory.old ++ piece.now }
     ensures rest { Filled memory.old used.old memory.new used.new }
 {
-    let end = *used + piece.len();
-    memory[*used..end].copy_from_slice(piece);
+    let start = *used;
+    let end = start + piece.len();
+    match *piece {
+        [a, b] => {
+            memory[start] = a;
+            memory[start + 1] = b;
+        }
+        [a, b, c] => {
+            memory[start] = a;
+            memory[start + 1] = b;
+            memory[start + 2] = c;
+        }
+        _ => memory[start..end].copy_from_slice(piece),
+    }
     *used = end;
 }
 

@@ -3,8 +3,8 @@ use Rattle.sink.specs.Lent.{Filled}
 use Rattle.sink.proofs.Lents.{part_spliced, spliced_filled}
 use Rattle.sink.proofs.lent.place.Goals as goal
 
-pub returns-clause-rest : goal.returns-clause-rest
-returns-clause-rest g c =
+pub returns-in_default-clause-rest : goal.returns-in_default-clause-rest
+returns-in_default-clause-rest g c =
     let used = c.args.used.now in
     let xs = c.args.memory.now in
     let piece = c.args.piece.now in
