@@ -6,7 +6,8 @@ use Rattle.armv7.specs.declared.operand.Operand.{Operand}
 use Rattle.visitor.specs.Operands.{operand_items}
 use Rattle.visitor.specs.Texts.{followed}
 use Rattle.blocks.proofs.Operands.{operand_row}
-use Rattle.measure.proofs.Sizes.{size, row_size}
+use Rattle.measurer.proofs.Sizes.{size}
+use Rattle.measure.proofs.Sizes.{row_size}
 
 -- an operand, with a comma and a blank
 abbrev pub behind_comma : Operand → ℕ
