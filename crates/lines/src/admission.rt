@@ -59,6 +59,7 @@ fn admit_one(load: bool, instruction: &Instruction) -> Result<Form<'_>, Fault>
     ensures { AdmittedAs (one_form load) instruction.now result }
 {
     let operands = admit_reached(&instruction.operands)?;
+    // Kept: the check makes no proof of a `map_or` here, since what its closure answers, a `Form`, names a lifetime.
     match stack_register(load, &instruction.operands) {
         Some(reg) => Ok(Form::One { load, reg }),
         None => Ok(Form::Plain(operands)),

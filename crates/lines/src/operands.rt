@@ -9,6 +9,7 @@ ghost use Rattle.lines.specs.Lines.{all_of, reached};
 
 use crate::form::Reached;
 use armv7::{Fault, Operand, Place};
+use visitor::admit_distance;
 
 const PLACES: [Place; 4] = [Place::First, Place::Second, Place::Third, Place::Fourth];
 
@@ -27,29 +28,10 @@ pub(crate) fn admit_operand(operand: Operand, place: Place) -> Result<(), Fault>
     ensures { outcome result ≡ operand_refused (place_index place) operand }
 {
     match operand {
-        Operand::Coprocessor(_) => Err(Fault::DeadOperand(place)),
-        Operand::Nothing => Err(Fault::DeadOperand(place)),
-        Operand::RegDerefPostindexRegShift(_, _, _, wback) => {
-            if wback {
-                Err(Fault::WriteBack(place))
-            } else {
-                Ok(())
-            }
-        }
-        Operand::BranchOffset(distance) => {
-            if distance < -536_870_912 || distance > 536_870_911 {
-                Err(Fault::Displacement(place))
-            } else {
-                Ok(())
-            }
-        }
-        Operand::BranchThumbOffset(distance) => {
-            if distance < -1_073_741_824 || distance > 1_073_741_823 {
-                Err(Fault::Displacement(place))
-            } else {
-                Ok(())
-            }
-        }
+        Operand::Coprocessor(_) | Operand::Nothing => Err(Fault::DeadOperand(place)),
+        Operand::RegDerefPostindexRegShift(_, _, _, true) => Err(Fault::WriteBack(place)),
+        Operand::BranchOffset(distance) => admit_distance(distance, 4, place),
+        Operand::BranchThumbOffset(distance) => admit_distance(distance, 2, place),
         _ => Ok(()),
     }
 }

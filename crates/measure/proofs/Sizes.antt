@@ -3,18 +3,13 @@ use Rattle.std.proofs.Common.{◌≡◌, ℕ, ◌+◌, ◌-◌, List, [], ◌∷
 use Rattle.armv7.specs.declared.instruction.Instruction.{Instruction}
 use Rattle.sink.specs.declared.sink.Edge.TheVariants.{End}
 use Rattle.sink.specs.declared.sink.Span.TheVariants.{Opcode}
-use Rattle.sink.specs.Items.{Item, edge, text_items, bytes}
-use Rattle.sink.proofs.Rows.{length_bytes, bytes_text}
+use Rattle.sink.specs.Items.{Item, edge, text_items}
+use Rattle.sink.proofs.Rows.{length_bytes}
 use Rattle.visitor.specs.Texts.{followed, decimal}
 use Rattle.lines.specs.declared.form.Form.{Form}
 use Rattle.lines.specs.Forms.{word_of, rows_of, parts_of}
 use Rattle.lines.specs.Lines.{word_items, behind_word, line_of, parts, line, code_row, code_rows}
-
-abbrev pub size : List Item → ℕ
-size is = length (bytes is)
-
-size_text : (t : List ℕ) → size (text_items t) ≡ length t
-size_text t = ap length (bytes_text t)
+use Rattle.measurer.proofs.Sizes.{size, size_text}
 
 -- a row behind a comma, and the rows that follow it
 pub row_size : (r : List Item) (rows : List (List Item)) → size (followed (r ∷ rows)) ≡ 2 + (size r + size (followed rows))

@@ -15,27 +15,20 @@ use lines::{Block, Form, Reached};
 use measurer::{decimal_size, flag_size, measure};
 
 // The measurer refuses only what has no text.
-// Kept: taken apart here once, since otherwise every size would be a Result in vain.
 fn operand_size(operand: Operand) -> usize
     requires { HasText operand }
     ensures value { result ≡ length (bytes (operand_items operand)) }
     ensures bound { result ≤ 65 }
 {
-    match measure(&operand) {
-        Ok(size) => size,
-        Err(_) => unreachable(),
-    }
+    measure(&operand).unwrap()
 }
 
 fn operand_rows(reached: Reached<'_>) -> usize
     ensures value { result ≡ length (bytes (followed (map operand_items reached.entry.operands.now))) }
     ensures bound { result ≤ 268 }
 {
-    let mut size = 0;
-    for operand in reached.operands {
-        size += 2 + operand_size(*operand);
-    }
-    size
+    let operands = reached.operands.iter();
+    operands.map(|operand| 2 + operand_size(*operand)).sum()
 }
 
 // A code, where there is one.
@@ -43,10 +36,7 @@ fn code_row_size(code: Option<u8>) -> usize
     ensures value { result ≡ length (bytes (followed (map code_row (optional code)))) }
     ensures bound { result ≤ 4 }
 {
-    match code {
-        Some(number) => 2 + decimal_size(number),
-        None => 0,
-    }
+    code.map_or(0, |number| 2 + decimal_size(number))
 }
 
 // The codes of a coprocessor form around its operands.
@@ -93,10 +83,7 @@ fn mode_size(mode: Option<u16>) -> usize
     ensures value { result ≡ length (bytes (followed (mode_rows mode))) }
     ensures bound { result ≤ 68 }
 {
-    match mode {
-        Some(number) => 3 + operand_size(Operand::Imm12(number)),
-        None => 0,
-    }
+    mode.map_or(0, |number| 3 + operand_size(Operand::Imm12(number)))
 }
 
 // All rows of a line: that of an IT block is a condition, and that of SETEND an order of bytes, of two letters each.

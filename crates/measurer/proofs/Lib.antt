@@ -1,2 +1,2 @@
 mod Counts
-mod Sizes
+pub mod Sizes

@@ -164,6 +164,11 @@ module _ (r : Reg) (a w : Bool) where
 pub option_size : (n : ℕ) → size (operand_items (CoprocOption n)) ≡ suc (length (prefixed 2 n) + 1)
 option_size n = size_text (codes "{" ++ (prefixed 2 n ++ codes "}")) ∙ ap suc (length-append (prefixed 2 n) (codes "}"))
 
-pub branch_length : (scale : ℕ) (z : ℤ) → length (branch_text scale z) ≡ suc (suc (length (prefixed 8 (scale * nat_abs z))))
+branch_length : (scale : ℕ) (z : ℤ) → length (branch_text scale z) ≡ suc (suc (length (prefixed 8 (scale * nat_abs z))))
 branch_length scale (pos n) = refl
 branch_length scale (negsuc n) = refl
+
+-- a branch distance z, a of whose steps have n bytes with the prefix
+pub branch_size : (scale : ℕ) (z : ℤ) {a n : ℕ} → a ≡ nat_abs z → n ≡ length (prefixed 8 (scale * a)) → 2 + n ≡ size (text_items (branch_text scale z))
+branch_size scale z e f =
+    ap (λ m. 2 + m) (f ∙ ap (λ m. length (prefixed 8 (scale * m))) e) ∙ omega arith ∙ sym (size_text (branch_text scale z) ∙ branch_length scale z)

@@ -5,7 +5,7 @@ use crate::size::{
     decimal_size, flag_size, list_size, offset_size, prefixed_size, reg_size, shift_size,
 };
 use armv7::{Bank, CReg, Fault, Operand, Place, Reg, RegShift, StatusRegMask};
-use visitor::{OperandVisitor, visit};
+use visitor::{OperandVisitor, admit_distance, visit};
 
 #[derive(Clone, Copy)]
 pub struct Measurer;
@@ -109,19 +109,13 @@ impl OperandVisitor for Measurer {
         Ok(prefixed_size(imm))
     }
 
-    // Kept: the two kinds of branch have their bounds and scales as numbers; one function for both would take each bound and its
-    // negative, and be no plainer.
     fn visit_branch_offset(&mut self, offset: i32) -> Result<usize, Fault> {
-        if offset < -536870912 || offset > 536870911 {
-            return Err(Fault::Displacement(Place::First));
-        }
+        admit_distance(offset, 4, Place::First)?;
         Ok(2 + prefixed_size(4 * offset.unsigned_abs()))
     }
 
     fn visit_blx_offset(&mut self, offset: i32) -> Result<usize, Fault> {
-        if offset < -1073741824 || offset > 1073741823 {
-            return Err(Fault::Displacement(Place::First));
-        }
+        admit_distance(offset, 2, Place::First)?;
         Ok(2 + prefixed_size(2 * offset.unsigned_abs()))
     }
 

@@ -27,22 +27,17 @@ impl<S: RoomSink> Page<S> {
     }
 
     // Counts a line that was written, or tells a refusal with the count.
-    // Kept: what becomes of the count in either case stands side by side, where a `map_err` would hide one of them.
     fn answer(&mut self, wrote: Result<(), Fault>) -> Result<u64, PageFault>
         ensures result_value { told result ≡ told_by (outcome wrote) self.old.count (counted self.old.count) }
         ensures sink_unchanged { self.new.sink ≡ self.old.sink }
         ensures count_after { self.new.count ≡ counted_unless (outcome wrote) self.old.count }
     {
-        match wrote {
-            Ok(()) => {
-                self.count = self.count.saturating_add(1);
-                Ok(self.count)
-            }
-            Err(fault) => Err(PageFault {
-                fault,
-                count: self.count,
-            }),
-        }
+        wrote.map_err(|fault| PageFault {
+            fault,
+            count: self.count,
+        })?;
+        self.count = self.count.saturating_add(1);
+        Ok(self.count)
     }
 
     // Prints an instruction's line.

@@ -11,10 +11,8 @@ pub(crate) fn is_nothing(operand: Operand) -> bool {
 // Whether the scale takes the distance of a branch out of 32 bits.
 pub(crate) fn is_too_far(operand: Operand) -> bool {
     match operand {
-        Operand::BranchOffset(distance) => distance < -536_870_912 || distance > 536_870_911,
-        Operand::BranchThumbOffset(distance) => {
-            distance < -1_073_741_824 || distance > 1_073_741_823
-        }
+        Operand::BranchOffset(distance) => distance.checked_mul(4).is_none(),
+        Operand::BranchThumbOffset(distance) => distance.checked_mul(2).is_none(),
         _ => false,
     }
 }

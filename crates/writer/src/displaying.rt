@@ -16,7 +16,7 @@ use text::{
     write_banked_reg, write_banked_spsr, write_branch, write_list, write_option, write_prefixed,
     write_reg, write_spanned,
 };
-use visitor::{OperandVisitor, visit};
+use visitor::{OperandVisitor, admit_distance, visit};
 
 #[derive(Drop)]
 pub struct DisplayingOperandVisitor<'a, T> {
@@ -121,19 +121,13 @@ impl<T: DisplaySink> OperandVisitor for DisplayingOperandVisitor<'_, T> {
         write_prefixed(self.f, imm)
     }
 
-    // Kept: the two kinds of branch have their bounds and scales as numbers; one function for both would take each bound and its
-    // negative, and be no plainer.
     fn visit_branch_offset(&mut self, offset: i32) -> Result<(), Fault> {
-        if offset < -536870912 || offset > 536870911 {
-            return Err(Fault::Displacement(Place::First));
-        }
+        admit_distance(offset, 4, Place::First)?;
         write_branch(self.f, 4, offset)
     }
 
     fn visit_blx_offset(&mut self, offset: i32) -> Result<(), Fault> {
-        if offset < -1073741824 || offset > 1073741823 {
-            return Err(Fault::Displacement(Place::First));
-        }
+        admit_distance(offset, 2, Place::First)?;
         write_branch(self.f, 2, offset)
     }
 

@@ -1,18 +1,12 @@
-use Rattle.std.proofs.Common.{refl, arith}
-use Rattle.measure.proofs.Reached.{so_far, past_end, more}
+use Rattle.std.proofs.Common.{◌≡◌, sym, ◌∙◌, arith, rules, tests}
+use Rattle.std.specs.List.{sum_by}
+use Rattle.std.proofs.lemmas.Iterator.{YieldsList-from_slice, YieldsList-from_map}
+use Rattle.std.proofs.lemmas.Iterator.Consumers.{YieldsList-at, sum_by_from_yields_List}
+use Rattle.measure.proofs.Reached.{behind_comma, all_rows, no_larger}
 use Rattle.measure.proofs.rows.operand_rows.Goals as goal
 
-pub overflow_add-size-in-loop-operand : goal.overflow_add-size-in-loop-operand
-overflow_add-size-in-loop-operand c =
-    let fits = so_far c.args.reached.operands.now c.args.reached.few _ c.loop-operand.invariant in
-    record { fits = omega (arith, fits) }
-
-pub loop-operand-preserved : goal.loop-operand-preserved
-loop-operand-preserved c =
-    more c.args.reached.operands.now c.args.reached.few _ c.loop-operand.invariant c.loop-operand-test.true c.operand_size.ensures.value refl
-
 pub returns : goal.returns
-returns c = record {
-  value = past_end c.args.reached.operands.now c.args.reached.few _ c.loop-operand.invariant c.loop-operand-test.false;
-  bound = so_far c.args.reached.operands.now c.args.reached.few _ c.loop-operand.invariant;
-}
+returns c =
+    let os = c.args.reached.operands.now in
+    let total : c.sum.result ≡ sum_by behind_comma os = sum_by_from_yields_List behind_comma os c.map.result _ c.sum.ensures.ran (YieldsList-from_map _ behind_comma (YieldsList-at c.map.ensures.source (YieldsList-from_slice os cc)) c.map.ensures.closure (λ x r q k. search (rules, tests))) in
+    record { value = total ∙ sym (all_rows os); bound = omega (arith, total, no_larger os c.args.reached.few) }

@@ -4,7 +4,6 @@ use Rattle.sink.specs.Meaning.{room}
 use Rattle.sink.specs.Outcome.{outcome}
 use Rattle.sink.proofs.Chain.{both}
 use Rattle.visitor.specs.Visits.{PrintedUnless}
-use Rattle.lines.specs.Admission.{refused}
 use Rattle.lines.specs.Lines.{line}
 use Rattle.page.specs.Rows.{row_refused, row}
 use Rattle.page.proofs.row.write_line.Goals as goal
