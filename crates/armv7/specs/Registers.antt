@@ -1,5 +1,7 @@
 -- The registers by number, and the names of the general-purpose ones. Assumes nothing.
-use Rattle.std.specs.Prelude.{ℕ, ◌%◌, List, [], ◌∷◌, codes, slice_index_or}
+use Rattle.std.specs.Prelude.{◌≡◌, ℕ, ◌%◌, ◌<◌, List, [], ◌∷◌, codes, slice_index_or, Result, MatchResult}
+use Rattle.armv7.specs.declared.fault.Fault.{Fault}
+use Rattle.armv7.specs.Faults.{refusal, refused_with, no_operand}
 use Rattle.armv7.specs.declared.reg.Reg.{Reg}
 use Rattle.armv7.specs.declared.reg.Reg.TheVariants.{R0, R1, R2, R3, R4, R5, R6, R7, R8, R9, R10, R11, R12, R13, R14, R15}
 use Rattle.armv7.specs.declared.creg.CReg.{CReg}
@@ -52,3 +54,7 @@ reg_name r = slice_index_or reg_names (reg_number r) []
 -- the register that a number's low four bits number
 abbrev pub reg_at : ℕ → Reg
 reg_at n = slice_index_or (R0 ∷ R1 ∷ R2 ∷ R3 ∷ R4 ∷ R5 ∷ R6 ∷ R7 ∷ R8 ∷ R9 ∷ R10 ∷ R11 ∷ R12 ∷ R13 ∷ R14 ∷ R15 ∷ []) (n % 16) R0
+
+-- an answer to a number: what it numbers, and above 15 a refusal
+abbrev pub AnswersNumber : {R : Type 0} → (R → ℕ) → ℕ → Result R Fault → Type 0
+AnswersNumber number n answer = MatchResult answer (λ reg. number reg ≡ n) (λ f. (15 < n) × (refusal f ≡ refused_with 1 no_operand))

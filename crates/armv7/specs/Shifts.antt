@@ -1,5 +1,7 @@
 -- Shift words: which numbers are one, and the fields that the manual gives them. Assumes nothing.
-use Rattle.std.specs.Prelude.{◌≡◌, ℕ, ◌-◌, ◌/◌, ◌%◌, ◌≤◌, cond, ◌&&◌, List, [], ◌∷◌, codes, ◌==◌, ◌≢◌, slice_index_or}
+use Rattle.std.specs.Prelude.{◌≡◌, ℕ, ◌-◌, ◌/◌, ◌%◌, ◌≤◌, cond, ◌&&◌, List, [], ◌∷◌, codes, ◌==◌, ◌≢◌, slice_index_or, Result, MatchResult}
+use Rattle.armv7.specs.declared.fault.Fault.{Fault}
+use Rattle.armv7.specs.Faults.{refusal, refused_with, no_operand}
 use Rattle.armv7.specs.Registers.{reg_at}
 use Rattle.armv7.specs.declared.shift.ShiftStyle.{ShiftStyle}
 use Rattle.armv7.specs.declared.shift.ShiftStyle.TheVariants.{LSL, LSR, ASR, ROR}
@@ -36,3 +38,11 @@ shift_fields w =
     cond (bit 16 w == 0)
     (RegImm (record { shiftee = reg_at w; stype = style_at (w / 32); imm = w / 128 % 32 }))
     (RegReg (record { shiftee = reg_at w; stype = style_at (w / 32); shifter = reg_at (w / 256) }))
+
+-- a refusal of a number that is no shift word
+abbrev pub RefusesWord : ℕ → Fault → Type 0
+RefusesWord n f = (IsShiftWord n → ⊥) × (refusal f ≡ refused_with 2 no_operand)
+
+-- an answer to a number: a shift word is kept as it is, and another number is refused
+abbrev pub AnswersWord : ℕ → Result RegShift Fault → Type 0
+AnswersWord n answer = MatchResult answer (λ s. (s.«data» ≡ n) × IsShiftWord n) (RefusesWord n)

@@ -1,7 +1,6 @@
 // The control registers of a coprocessor.
-ghost use Rattle.std.specs.Prelude.{◌≡◌, ◌<◌, MatchResult};
-ghost use Rattle.armv7.specs.Faults.{refusal, refused_with, no_operand};
-ghost use Rattle.armv7.specs.Registers.{creg_number};
+ghost use Rattle.std.specs.Prelude.{◌≡◌};
+ghost use Rattle.armv7.specs.Registers.{creg_number, AnswersNumber};
 
 use crate::fault::Fault;
 
@@ -49,7 +48,7 @@ impl CReg {
 
     // The control register with this number, which is refused above 15.
     pub fn from_u8(bits: u8) -> Result<CReg, Fault>
-        ensures answer { MatchResult result (λ reg. creg_number reg ≡ bits) (λ f. (15 < bits) × (refusal f ≡ refused_with 1 no_operand)) }
+        ensures answer { AnswersNumber creg_number bits result }
     {
         CReg::try_from(bits)
     }
@@ -65,7 +64,7 @@ impl CReg {
 impl TryFrom<u8> for CReg {
     type Error = Fault;
 
-    ghost try_from_gives = { λ bits r. MatchResult r (λ reg. creg_number reg ≡ bits) (λ f. (15 < bits) × (refusal f ≡ refused_with 1 no_operand)) };
+    ghost try_from_gives = { AnswersNumber creg_number };
 
     fn try_from(bits: u8) -> Result<CReg, Fault> {
         CReg::ALL.get(bits as usize).copied().ok_or(Fault::Register)

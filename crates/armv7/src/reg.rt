@@ -1,7 +1,6 @@
 // The general-purpose registers.
-ghost use Rattle.std.specs.Prelude.{◌≡◌, ◌<◌, MatchResult};
-ghost use Rattle.armv7.specs.Faults.{refusal, refused_with, no_operand};
-ghost use Rattle.armv7.specs.Registers.{reg_number, reg_name, reg_at};
+ghost use Rattle.std.specs.Prelude.{◌≡◌};
+ghost use Rattle.armv7.specs.Registers.{reg_number, reg_name, reg_at, AnswersNumber};
 
 use crate::fault::Fault;
 
@@ -54,7 +53,7 @@ impl Reg {
 
     // The register with this number, which is refused above 15.
     pub fn from_u8(bits: u8) -> Result<Reg, Fault>
-        ensures answer { MatchResult result (λ reg. reg_number reg ≡ bits) (λ f. (15 < bits) × (refusal f ≡ refused_with 1 no_operand)) }
+        ensures answer { AnswersNumber reg_number bits result }
     {
         Reg::try_from(bits)
     }
@@ -84,7 +83,7 @@ impl Reg {
 impl TryFrom<u8> for Reg {
     type Error = Fault;
 
-    ghost try_from_gives = { λ bits r. MatchResult r (λ reg. reg_number reg ≡ bits) (λ f. (15 < bits) × (refusal f ≡ refused_with 1 no_operand)) };
+    ghost try_from_gives = { AnswersNumber reg_number };
 
     fn try_from(bits: u8) -> Result<Reg, Fault> {
         Reg::ALL.get(bits as usize).copied().ok_or(Fault::Register)

@@ -1,7 +1,6 @@
 // Registers that are shifted: by an amount, or by another register.
 ghost use Rattle.std.specs.Prelude.{◌≡◌, MatchResult};
-ghost use Rattle.armv7.specs.Faults.{refusal, refused_with, no_operand};
-ghost use Rattle.armv7.specs.Shifts.{IsShiftWord, shift_word, shift_fields, style_at, style_name};
+ghost use Rattle.armv7.specs.Shifts.{IsShiftWord, shift_word, shift_fields, style_at, style_name, RefusesWord, AnswersWord};
 
 use crate::fault::Fault;
 use crate::reg::Reg;
@@ -75,8 +74,8 @@ impl RegShift {
 
     // The shift word with this number, which is refused above 4095 and where bits 4 and 7 are both set.
     pub fn from_raw(data: u16) -> Result<RegShift, Fault>
-        ensures word { MatchResult result (λ s. shift_word s ≡ «data») (λ f. (IsShiftWord «data» → ⊥) × (refusal f ≡ refused_with 2 no_operand)) }
-        ensures answer { MatchResult result (λ s. (s.«data» ≡ «data») × IsShiftWord «data») (λ f. (IsShiftWord «data» → ⊥) × (refusal f ≡ refused_with 2 no_operand)) }
+        ensures word { MatchResult result (λ s. shift_word s ≡ «data») (RefusesWord «data») }
+        ensures answer { AnswersWord «data» result }
     {
         RegShift::try_from(data)
     }
@@ -98,7 +97,7 @@ impl RegShift {
 impl TryFrom<u16> for RegShift {
     type Error = Fault;
 
-    ghost try_from_gives = { λ n r. MatchResult r (λ s. (s.«data» ≡ n) × IsShiftWord n) (λ f. (IsShiftWord n → ⊥) × (refusal f ≡ refused_with 2 no_operand)) };
+    ghost try_from_gives = { AnswersWord };
 
     fn try_from(data: u16) -> Result<RegShift, Fault> {
         if data > 4095 {

@@ -1,11 +1,10 @@
 // A buffer for the text of one instruction.
 #![tactic(auto)]
 
-ghost use Rattle.std.specs.Prelude.{◌≡◌, []};
+ghost use Rattle.std.specs.Prelude.{◌≡◌, ◌≤◌, []};
 ghost use Rattle.sink.specs.Outcome.{outcome};
 ghost use Rattle.lines.specs.Admission.{refused};
 ghost use Rattle.lines.specs.Lines.{line};
-ghost use Rattle.buffer.specs.Held.{text_of, formatted};
 
 use armv7::{Fault, Instruction};
 use display::visit_inst;
@@ -19,9 +18,12 @@ const MAX_INSTRUCTION_LEN: usize = 512;
 pub struct InstructionTextBuffer {
     content: [u8; MAX_INSTRUCTION_LEN],
     len: usize,
+    ghost within: { len ≤ 512 },
 }
 
 impl InstructionTextBuffer {
+    ghost use Rattle.buffer.specs.Held.{text_of, formatted};
+
     // A buffer with no text yet.
     pub fn new() -> InstructionTextBuffer
         ensures empty { text_of result ≡ [] }
@@ -48,6 +50,6 @@ impl InstructionTextBuffer {
     pub fn text_str(&self) -> &[u8]
         ensures text { result.now ≡ text_of self.now }
     {
-        &self.content[..self.len.min(MAX_INSTRUCTION_LEN)]
+        &self.content[..self.len]
     }
 }

@@ -18,6 +18,7 @@ pub struct Cell {
 
 impl Ink {
     // 0 is plain, 1 is an opcode's and 2 a register's.
+    // Kept: which number an ink has is a rule of the project.
     pub fn number(&self) -> u8
         ensures value { result ≡ ink_number self.now }
     {

@@ -54,11 +54,19 @@ impl<'a> CellSink<'a> {
         }
     }
 
+    // The cells of the text so far.
+    pub fn cells(&self) -> &[Cell]
+        ensures value { result.now ≡ cells_of self.now }
+    {
+        &self.cells[..self.len]
+    }
+
     // Gives the cells back, and answers how many of them are the text.
     pub fn end(self) -> usize
         ensures memory { self.exit.0.now ≡ self.entry.cells.now }
         ensures text { take result self.entry.cells.now ≡ cells_of self.entry }
         ensures value { result ≡ length (cell_meaning self.entry).text }
+        ensures within { result ≤ length self.exit.0.now }
     {
         self.len
     }

@@ -14,12 +14,6 @@ pub use text::TextSink;
 mod tests {
     use super::*;
 
-    const NO_MARK: Mark = Mark {
-        edge: Edge::Start,
-        span: Span::Opcode,
-        at: 0,
-    };
-
     // Writes a word in a span, and a piece that a sink of eight bytes has no room for.
     fn fill<T: RoomSink>(out: &mut T) -> (bool, usize) {
         out.span_start_opcode();
@@ -36,6 +30,7 @@ mod tests {
         let mut buf = [0u8; 8];
         let mut out = TextSink::new(&mut buf);
         assert_eq!(rt; fill(&mut out), (true, 0));
+        assert!(rt; out.text() == b"ldm sp!,".as_slice());
         assert_eq!(rt; out.end(), 8);
         assert!(rt; buf == *b"ldm sp!,");
     }
@@ -43,9 +38,11 @@ mod tests {
     #[test]
     fn mark_sink_fills(rt: HostRuntime) {
         let mut buf = [0u8; 8];
-        let mut row = [NO_MARK; 3];
+        let mut row = [Mark::BLANK; 3];
         let mut out = MarkSink::new(&mut buf, &mut row);
         assert_eq!(rt; fill(&mut out), (true, 0));
+        assert!(rt; out.text() == b"ldm sp!,".as_slice());
+        assert_eq!(rt; out.marks().len(), 3);
         assert_eq!(rt; out.end(), (8, 3));
         assert_eq!(rt; row[1].at, 3);
         assert!(rt; (row[2].edge, row[2].span) == (Edge::Start, Span::Register));

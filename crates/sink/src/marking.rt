@@ -35,6 +35,20 @@ impl<'a> MarkSink<'a> {
         }
     }
 
+    // The text so far.
+    pub fn text(&self) -> &[u8]
+        ensures value { result.now ≡ (mark_meaning self.now).text }
+    {
+        &self.buf[..self.len]
+    }
+
+    // The marks so far.
+    pub fn marks(&self) -> &[Mark]
+        ensures value { result.now ≡ (mark_meaning self.now).marks }
+    {
+        &self.row[..self.count]
+    }
+
     // Gives the memory back, and answers how many of its bytes are the text, and how many of its row are marks.
     pub fn end(self) -> (usize, usize)
         ensures memory { self.exit.0.now ≡ self.entry.buf.now }
@@ -42,6 +56,7 @@ impl<'a> MarkSink<'a> {
         ensures text { take result.0 self.entry.buf.now ≡ (mark_meaning self.entry).text }
         ensures marks { take result.1 self.entry.row.now ≡ (mark_meaning self.entry).marks }
         ensures value { (result.0 ≡ length (mark_meaning self.entry).text) × (result.1 ≡ length (mark_meaning self.entry).marks) }
+        ensures within { (result.0 ≤ length self.exit.0.now) × (result.1 ≤ length self.exit.1.1.0.now) }
     {
         (self.len, self.count)
     }

@@ -29,11 +29,22 @@ pub struct Mark {
     pub at: usize,
 }
 
+impl Mark {
+    // What a row of marks is filled with at first.
+    pub const BLANK: Mark = Mark {
+        edge: Edge::Start,
+        span: Span::Opcode,
+        at: 0,
+    };
+}
+
 // Kept: the calls are those of the interface that the original prints to, by a rule of the project.
 pub trait DisplaySink {
     ghost meaning: { Self → Meaning };
 
     // What else of a sink every call leaves, as the memory past its text.
+    // Kept: each call says so in a clause of its own, since a law tells of ghost members and not of calls. One relation of what is
+    // kept and what the sink holds would stand in as many clauses.
     ghost kept: { Self → Self → Type 0 };
 
     ghost laws: { Laws meaning kept };

@@ -26,11 +26,19 @@ impl<'a> TextSink<'a> {
         TextSink { buf, len: 0 }
     }
 
+    // The text so far.
+    pub fn text(&self) -> &[u8]
+        ensures value { result.now ≡ (text_meaning self.now).text }
+    {
+        &self.buf[..self.len]
+    }
+
     // Gives the memory back, and answers how many of its bytes are the text.
     pub fn end(self) -> usize
         ensures memory { self.exit.0.now ≡ self.entry.buf.now }
         ensures text { take result self.entry.buf.now ≡ (text_meaning self.entry).text }
         ensures value { result ≡ length (text_meaning self.entry).text }
+        ensures within { result ≤ length self.exit.0.now }
     {
         self.len
     }
