@@ -43,7 +43,7 @@ fn write_base<T: DisplaySink>(out: &mut T, base: Reg) -> Result<(), Fault>
 }
 
 // An offset, as it stands inside an address, and mostly behind one too.
-pub(crate) trait Offset {
+pub(crate) trait Offset: Copy {
     // What it shows where it is added, and where it is taken off.
     ghost items: { Self → Bool → List Item };
 
@@ -104,7 +104,7 @@ pub(crate) fn write_preindex<T: DisplaySink, O: Offset>(
     add: bool,
     wback: bool,
 ) -> Result<(), Fault>
-    ensures { Printed T.meaning T.kept ((text_items (codes "[") ++ reg_items base) ++ (O.items offset add ++ text_items (codes "]" ++ bang wback))) out.old (outcome result) out.new }
+    ensures { Printed T.meaning T.kept (text_items (codes "[") ++ (reg_items base ++ (O.items offset add ++ text_items (codes "]" ++ bang wback)))) out.old (outcome result) out.new }
 {
     write_base(out, base)?;
     offset.write(out, add)?;
