@@ -44,5 +44,5 @@ by_opcode i LDR = one_named _ true (one_on_stack true i.operands)
 by_opcode i STR = one_named _ false (one_on_stack false i.operands)
 by_opcode i _ = tt
 
-pub block_named_so : (i : Instruction) (b : Block) → Some (many b) ≡ moved i → name_of i.opcode ≡ block_name b.transfer.load b.transfer.add b.transfer.pre
-block_named_so i b e = subst (Named (name_of i.opcode)) (sym e) (by_opcode i i.opcode)
+pub opcode_named : (i : Instruction) (b : Block) → Some (many b) ≡ moved i → name_of i.opcode ≡ block_name b.transfer.load b.transfer.add b.transfer.pre
+opcode_named i b e = subst (Named (name_of i.opcode)) (sym e) (by_opcode i i.opcode)
