@@ -31,7 +31,11 @@ pub fn write_either<T: DisplaySink>(
 ) -> Result<(), Fault>
     ensures printed { Printed T.meaning T.kept (text_items (if flag then set.now else clear.now)) out.old (outcome result) out.new }
 {
-    write_text(out, if flag { set } else { clear })
+    if flag {
+        write_text(out, set)
+    } else {
+        write_text(out, clear)
+    }
 }
 
 // A name in a register span.
