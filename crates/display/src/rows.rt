@@ -12,12 +12,11 @@ ghost use Rattle.lines.specs.Lines.{behind_word, one_row, code_row};
 
 use crate::operands::{write_followed, write_operands};
 use crate::system::{write_cps, write_it_condition, write_setend};
-use crate::word::write_flagged;
 use armv7::{Fault, Reg};
 use kind::Codes;
 use lines::{Block, Form, Reached};
 use sink::DisplaySink;
-use text::{write_decimal, write_list, write_reg, write_text};
+use text::{write_decimal, write_flagged, write_list, write_reg, write_text};
 use writer::write_reg_wback;
 
 // The list of a pop or a push.
@@ -55,7 +54,7 @@ pub fn write_block<T: DisplaySink>(block: Block, out: &mut T) -> Result<(), Faul
     write_reg_wback(out, block.base, block.wback)?;
     write_text(out, b", ")?;
     write_list(out, block.mask)?;
-    write_flagged(block.transfer.user, b"^", out)
+    write_flagged(out, block.transfer.user, b"^")
 }
 
 // A code behind a comma, where there is one.

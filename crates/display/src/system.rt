@@ -1,5 +1,5 @@
 // The rows of IT, CPS and SETEND.
-ghost use Rattle.std.specs.Prelude.{◌≡◌, [], ◌∷◌, ◌++◌, if◌then◌else◌, codes, nat_eq};
+ghost use Rattle.std.specs.Prelude.{[], ◌∷◌, ◌++◌, if◌then◌else◌, codes, nat_eq};
 ghost use Rattle.armv7.specs.Conditions.{condition_name};
 ghost use Rattle.sink.specs.Items.{text_items};
 ghost use Rattle.sink.specs.Outcome.{outcome};
@@ -8,10 +8,9 @@ ghost use Rattle.visitor.specs.Texts.{prefixed};
 ghost use Rattle.lines.specs.Codes.{mode_rows};
 ghost use Rattle.lines.specs.Lines.{behind_word, cps_letters, flag_row, setend_text};
 
-use crate::word::write_flagged;
 use armv7::{ConditionCode, Fault};
 use sink::DisplaySink;
-use text::{write_prefixed, write_text};
+use text::{write_either, write_flagged, write_prefixed, write_text};
 
 // The condition of an IT block.
 pub(crate) fn write_it_condition<T: DisplaySink>(
@@ -28,19 +27,15 @@ pub(crate) fn write_it_condition<T: DisplaySink>(
 pub(crate) fn write_setend<T: DisplaySink>(number: u16, out: &mut T) -> Result<(), Fault>
     ensures { Printed T.meaning T.kept (behind_word (text_items (setend_text number) ∷ [])) out.old (outcome result) out.new }
 {
-    if number == 0 {
-        write_text(out, b" le")
-    } else {
-        write_text(out, b" be")
-    }
+    write_either(out, number == 0, b" le", b" be")
 }
 
 fn write_cps_letters<T: DisplaySink>(flags: u16, out: &mut T) -> Result<(), Fault>
     ensures { Printed T.meaning T.kept (text_items (cps_letters flags)) out.old (outcome result) out.new }
 {
-    write_flagged(flags / 4 % 2 == 1, b"a", out)?;
-    write_flagged(flags / 2 % 2 == 1, b"i", out)?;
-    write_flagged(flags % 2 == 1, b"f", out)
+    write_flagged(out, flags / 4 % 2 == 1, b"a")?;
+    write_flagged(out, flags / 2 % 2 == 1, b"i")?;
+    write_flagged(out, flags % 2 == 1, b"f")
 }
 
 // The interrupts that a CPS switches.
@@ -54,16 +49,10 @@ fn write_cps_flags<T: DisplaySink>(flags: u16, out: &mut T) -> Result<(), Fault>
     write_cps_letters(flags, out)
 }
 
-fn before_mode(flags: u16) -> &'static [u8]
-    ensures { result.now ≡ (if nat_eq flags 0 then (codes " #") else (codes ", #")) }
-{
-    if flags == 0 { b" #" } else { b", #" }
-}
-
 fn write_cps_mode<T: DisplaySink>(flags: u16, mode: u16, out: &mut T) -> Result<(), Fault>
     ensures { Printed T.meaning T.kept (text_items ((if nat_eq flags 0 then (codes " #") else (codes ", #")) ++ prefixed 4 mode)) out.old (outcome result) out.new }
 {
-    write_text(out, before_mode(flags))?;
+    write_either(out, flags == 0, b" #", b", #")?;
     write_prefixed(out, u32::from(mode))
 }
 
@@ -76,9 +65,8 @@ pub(crate) fn write_cps<T: DisplaySink>(
     ensures { Printed T.meaning T.kept (behind_word (flag_row flags ++ mode_rows mode)) out.old (outcome result) out.new }
 {
     write_cps_flags(flags, out)?;
-    // Kept: a map_or would carry the sink into a closure.
-    match mode {
-        Some(number) => write_cps_mode(flags, number, out),
-        None => Ok(()),
-    }
+    let Some(number) = mode else {
+        return Ok(());
+    };
+    write_cps_mode(flags, number, out)
 }

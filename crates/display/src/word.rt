@@ -4,25 +4,13 @@ ghost use Rattle.armv7.specs.Conditions.{condition_number as number_of};
 ghost use Rattle.sink.specs.Items.{text_items};
 ghost use Rattle.sink.specs.Outcome.{outcome};
 ghost use Rattle.sink.specs.Printed.{Printed};
-ghost use Rattle.visitor.specs.Texts.{flagged};
 ghost use Rattle.lines.specs.Forms.{suffix_text, block_letters, word_of};
 ghost use Rattle.lines.specs.Lines.{condition_suffix, word_items, it_letter};
 
 use armv7::{ConditionCode, Fault, Instruction};
 use lines::{Form, ItBlock, Suffix, letter_count, stack_word};
 use sink::DisplaySink;
-use text::write_text;
-
-// A text that is written only under a flag.
-pub(crate) fn write_flagged<T: DisplaySink>(
-    flag: bool,
-    text: &[u8],
-    out: &mut T,
-) -> Result<(), Fault>
-    ensures { Printed T.meaning T.kept (text_items (flagged flag text.now)) out.old (outcome result) out.new }
-{
-    if flag { write_text(out, text) } else { Ok(()) }
-}
+use text::{write_flagged, write_text};
 
 // The condition's letters, one after the other; AL has none.
 fn write_condition<T: DisplaySink>(condition: ConditionCode, out: &mut T) -> Result<(), Fault>
@@ -41,9 +29,9 @@ fn write_condition<T: DisplaySink>(condition: ConditionCode, out: &mut T) -> Res
 fn write_suffix<T: DisplaySink>(suffix: Suffix, out: &mut T) -> Result<(), Fault>
     ensures { Printed T.meaning T.kept (text_items (suffix_text suffix)) out.old (outcome result) out.new }
 {
-    write_flagged(suffix.s, b"s", out)?;
+    write_flagged(out, suffix.s, b"s")?;
     write_condition(suffix.condition, out)?;
-    write_flagged(suffix.w, b".w", out)
+    write_flagged(out, suffix.w, b".w")
 }
 
 fn write_mnemonic<T: DisplaySink>(name: &[u8], suffix: Suffix, out: &mut T) -> Result<(), Fault>

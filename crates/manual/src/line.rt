@@ -15,21 +15,6 @@ use lines::{Block, Form, Suffix, admit, stack_word, stacks};
 use sink::DisplaySink;
 use text::{write_reg, write_text};
 
-fn name_of_block(transfer: Transfer) -> &'static [u8]
-    ensures { result.now ≡ block_name transfer.load transfer.add transfer.pre }
-{
-    match (transfer.load, transfer.add, transfer.pre) {
-        (true, true, false) => b"ldm",
-        (true, true, true) => b"ldmib",
-        (true, false, false) => b"ldmda",
-        (true, false, true) => b"ldmdb",
-        (false, true, false) => b"stm",
-        (false, true, true) => b"stmib",
-        (false, false, false) => b"stmda",
-        (false, false, true) => b"stmdb",
-    }
-}
-
 // Whether a block transfer is a pop or a push: the opcode's own write-back flag does not matter.
 fn is_on_stack(block: Block) -> bool
     ensures { result ≡ on_stack block }
@@ -41,14 +26,21 @@ fn is_on_stack(block: Block) -> bool
     stacks(transfer, block.base, block.wback)
 }
 
-fn write_block_line<T: DisplaySink>(block: Block, suffix: Suffix, out: &mut T) -> Result<(), Fault>
+// A pop or a push has a name of its own.
+fn write_block_line<T: DisplaySink>(
+    name: &[u8],
+    block: Block,
+    suffix: Suffix,
+    out: &mut T,
+) -> Result<(), Fault>
+    requires { name.now ≡ block_name block.transfer.load block.transfer.add block.transfer.pre }
     ensures { Printed T.meaning T.kept (line_of (block_parts block (suffix_text suffix))) out.old (outcome result) out.new }
 {
     if is_on_stack(block) {
         write_word(stack_word(block.transfer.load), suffix, out)?;
         write_stack_list(block.mask, out)
     } else {
-        write_word(name_of_block(block.transfer), suffix, out)?;
+        write_word(name, suffix, out)?;
         write_block(block, out)
     }
 }
@@ -85,8 +77,9 @@ pub fn visit_manual<T: DisplaySink>(instruction: &Instruction, out: &mut T) -> R
         ..Suffix::of(instruction)
     };
     match form {
-        Form::Block(block) => write_block_line(block, suffix, out),
-        Form::Stack(block) => write_block_line(block, suffix, out),
+        Form::Block(block) | Form::Stack(block) => {
+            write_block_line(instruction.opcode.name(), block, suffix, out)
+        }
         Form::One { load, reg } => write_one_line(load, reg, suffix, out),
         _ => Err(Fault::NoManualForm),
     }

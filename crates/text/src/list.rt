@@ -1,37 +1,32 @@
 // The writer of a register list.
-ghost use Rattle.std.specs.Prelude.{[], ◌++◌, map, if◌then◌else◌, codes};
+ghost use Rattle.std.specs.Prelude.{◌++◌, map, codes};
 ghost use Rattle.sink.specs.Items.{text_items};
 ghost use Rattle.sink.specs.Outcome.{outcome};
 ghost use Rattle.sink.specs.Printed.{Printed};
-ghost use Rattle.visitor.specs.Texts.{reg_items, joined, chosen, all_regs, list_items};
+ghost use Rattle.visitor.specs.Texts.{flagged, reg_items, joined, chosen, all_regs, list_items};
 
-use crate::piece::{write_reg, write_text};
+use crate::piece::{write_flagged, write_reg, write_text};
 use armv7::{Fault, Reg};
 use sink::DisplaySink;
 
-// A register, behind a comma unless it is the first.
-fn write_next<T: DisplaySink>(out: &mut T, first: bool, reg: Reg) -> Result<(), Fault>
-    ensures { Printed T.meaning T.kept ((if first then [] else text_items (codes ", ")) ++ reg_items reg) out.old (outcome result) out.new }
+// A register, before a comma if more follow.
+fn write_next<T: DisplaySink>(out: &mut T, reg: Reg, more: bool) -> Result<(), Fault>
+    ensures { Printed T.meaning T.kept (reg_items reg ++ text_items (flagged more (codes ", "))) out.old (outcome result) out.new }
 {
-    if first {
-        return write_reg(out, reg);
-    }
-    write_text(out, b", ")?;
-    write_reg(out, reg)
+    write_reg(out, reg)?;
+    write_flagged(out, more, b", ")
 }
 
 // The registers whose bits are set, with commas between them.
 fn write_chosen<T: DisplaySink>(out: &mut T, mask: u16) -> Result<(), Fault>
     ensures { Printed T.meaning T.kept (joined (map reg_items (chosen all_regs mask))) out.old (outcome result) out.new }
 {
-    let mut rest = mask;
-    let mut first = true;
-    for reg in Reg::ALL.iter() {
-        if rest % 2 == 1 {
-            write_next(out, first, *reg)?;
-            first = false;
+    for reg in Reg::ALL {
+        // The bit of this register, and above it those of the registers that may follow.
+        let from_here = mask >> reg.number();
+        if from_here % 2 == 1 {
+            write_next(out, reg, from_here > 1)?;
         }
-        rest /= 2;
     }
     Ok(())
 }

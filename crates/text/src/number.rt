@@ -1,11 +1,11 @@
 // Writers of numbers.
-ghost use Rattle.std.specs.Prelude.{◌≡◌, ℕ, ◌^◌, ◌<◌, ◌≤◌, ◌++◌, drop, pos, negsuc, codes};
+ghost use Rattle.std.specs.Prelude.{◌≡◌, ℕ, ◌^◌, ◌<◌, ◌≤◌, ◌++◌, drop, codes};
 ghost use Rattle.sink.specs.Items.{text_items};
 ghost use Rattle.sink.specs.Outcome.{outcome};
 ghost use Rattle.sink.specs.Printed.{Printed};
 ghost use Rattle.visitor.specs.Texts.{decimal, prefixed, branch_text};
 
-use crate::piece::write_text;
+use crate::piece::{write_either, write_text};
 use armv7::Fault;
 use sink::DisplaySink;
 
@@ -66,18 +66,11 @@ pub fn write_decimal<T: DisplaySink>(out: &mut T, number: u8) -> Result<(), Faul
     write_text(out, &[48 + number / 10, 48 + number % 10])
 }
 
-// Where a branch goes from here: back or on.
-fn direction(distance: i32) -> &'static [u8]
-    ensures { result.now ≡ elim distance [ pos n ↦ codes "$+" | negsuc n ↦ codes "$-" ] }
-{
-    if distance < 0 { b"$-" } else { b"$+" }
-}
-
-// A branch distance, in steps of the scale.
+// A branch distance, back or on, in steps of the scale.
 pub fn write_branch<T: DisplaySink>(out: &mut T, scale: u8, distance: i32) -> Result<(), Fault>
     ensures printed { Printed T.meaning T.kept (text_items (branch_text scale distance)) out.old (outcome result) out.new }
 {
-    write_text(out, direction(distance))?;
+    write_either(out, distance < 0, b"$-", b"$+")?;
     write_last_digits(out, u64::from(scale) * u64::from(distance.unsigned_abs()))
 }
 

@@ -14,10 +14,6 @@ pub comma : (a : Bool) → cond a (codes ", ") (codes ", -") ≡ codes ", " ++ m
 comma true = refl
 comma false = refl
 
-pub past : (a : Bool) → cond a (codes "], ") (codes "], -") ≡ codes "], " ++ minus a
-past true = refl
-past false = refl
-
 pub past_blank : (a : Bool) → cond a (codes "],  ") (codes "], - ") ≡ codes "], " ++ (minus a ++ codes " ")
 past_blank true = refl
 past_blank false = refl

@@ -1,1 +1,2 @@
+mod Addresses
 mod Choices

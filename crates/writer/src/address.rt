@@ -1,40 +1,18 @@
 // Writers of addresses. Where two flags are given, the first adds the offset rather than taking it off, and the second writes the
 // address back.
-ghost use Rattle.std.specs.Prelude.{false, ◌++◌, if◌then◌else◌, codes};
-ghost use Rattle.armv7.specs.declared.operand.Operand.TheVariants.{RegWBack, RegDeref, RegDerefPostindexRegShift, RegDerefPreindexRegShift, RegDerefPostindexOffset, RegDerefPreindexOffset, RegDerefPostindexReg, RegDerefPreindexReg};
-ghost use Rattle.sink.specs.Items.{text_items};
+ghost use Rattle.std.specs.Prelude.{Bool, List, false, ◌++◌, codes};
+ghost use Rattle.armv7.specs.declared.operand.Operand.TheVariants.{RegWBack, RegDeref, RegDerefPostindexRegShift};
+ghost use Rattle.armv7.specs.Shifts.{shift_fields, shift_word};
+ghost use Rattle.sink.specs.Items.{Item, text_items};
 ghost use Rattle.sink.specs.Outcome.{outcome};
 ghost use Rattle.sink.specs.Printed.{Printed};
 ghost use Rattle.visitor.specs.Operands.{bang, minus, offset_text, operand_items};
-ghost use Rattle.visitor.specs.Texts.{reg_items};
+ghost use Rattle.visitor.specs.Texts.{reg_items, shift_items};
 
 use crate::shift::write_shift;
 use armv7::{Fault, Reg, RegShift};
 use sink::DisplaySink;
-use text::{write_prefixed, write_reg, write_text};
-
-// One of two texts.
-fn write_either<T: DisplaySink>(
-    out: &mut T,
-    flag: bool,
-    set: &[u8],
-    clear: &[u8],
-) -> Result<(), Fault>
-    ensures { Printed T.meaning T.kept (text_items (if flag then set.now else clear.now)) out.old (outcome result) out.new }
-{
-    if flag {
-        write_text(out, set)
-    } else {
-        write_text(out, clear)
-    }
-}
-
-// Kept: with write_either an empty text would stand for none, which says less plainly that nothing is written.
-fn write_bang<T: DisplaySink>(out: &mut T, wback: bool) -> Result<(), Fault>
-    ensures { Printed T.meaning T.kept (text_items (bang wback)) out.old (outcome result) out.new }
-{
-    if wback { write_text(out, b"!") } else { Ok(()) }
-}
+use text::{write_either, write_flagged, write_prefixed, write_reg, write_text};
 
 // The end of an address whose offset stands inside it.
 fn write_close<T: DisplaySink>(out: &mut T, wback: bool) -> Result<(), Fault>
@@ -48,13 +26,6 @@ fn write_comma<T: DisplaySink>(out: &mut T, add: bool) -> Result<(), Fault>
     ensures { Printed T.meaning T.kept (text_items (codes ", " ++ minus add)) out.old (outcome result) out.new }
 {
     write_either(out, add, b", ", b", -")
-}
-
-// What stands before a register behind the address.
-fn write_past<T: DisplaySink>(out: &mut T, add: bool) -> Result<(), Fault>
-    ensures { Printed T.meaning T.kept (text_items (codes "], " ++ minus add)) out.old (outcome result) out.new }
-{
-    write_either(out, add, b"], ", b"], -")
 }
 
 // What stands before a shift behind the address.
@@ -71,22 +42,51 @@ fn write_base<T: DisplaySink>(out: &mut T, base: Reg) -> Result<(), Fault>
     write_reg(out, base)
 }
 
-// An offset of 0 is not shown.
-fn write_offset<T: DisplaySink>(out: &mut T, offset: u16, add: bool) -> Result<(), Fault>
-    ensures { Printed T.meaning T.kept (text_items (offset_text add offset)) out.old (outcome result) out.new }
-{
-    if offset == 0 {
-        return Ok(());
+// An offset, as it stands inside an address, and mostly behind one too.
+pub(crate) trait Offset: Copy {
+    // What it shows where it is added, and where it is taken off.
+    ghost items: { Self → Bool → List Item };
+
+    fn write<T: DisplaySink>(self, out: &mut T, add: bool) -> Result<(), Fault>
+        ensures { Printed T.meaning T.kept (items self add) out.old (outcome result) out.new };
+}
+
+impl Offset for RegShift {
+    ghost items = { λ shift add. text_items (codes ", " ++ minus add) ++ shift_items (shift_fields (shift_word shift)) };
+
+    fn write<T: DisplaySink>(self, out: &mut T, add: bool) -> Result<(), Fault> {
+        write_comma(out, add)?;
+        write_shift(out, self)
     }
-    write_comma(out, add)?;
-    write_prefixed(out, u32::from(offset))
+}
+
+// An offset of 0 is not shown.
+impl Offset for u16 {
+    ghost items = { λ offset add. text_items (offset_text add offset) };
+
+    fn write<T: DisplaySink>(self, out: &mut T, add: bool) -> Result<(), Fault> {
+        if self == 0 {
+            return Ok(());
+        }
+        write_comma(out, add)?;
+        write_prefixed(out, u32::from(self))
+    }
+}
+
+impl Offset for Reg {
+    ghost items = { λ offset add. text_items (codes ", " ++ minus add) ++ reg_items offset };
+
+    fn write<T: DisplaySink>(self, out: &mut T, add: bool) -> Result<(), Fault> {
+        write_comma(out, add)?;
+        write_reg(out, self)
+    }
 }
 
 pub fn write_reg_wback<T: DisplaySink>(out: &mut T, reg: Reg, wback: bool) -> Result<(), Fault>
     ensures printed { Printed T.meaning T.kept (operand_items (RegWBack reg wback)) out.old (outcome result) out.new }
 {
     write_reg(out, reg)?;
-    write_bang(out, wback)
+    write_flagged(out, wback, b"!")
 }
 
 pub(crate) fn write_deref<T: DisplaySink>(out: &mut T, reg: Reg) -> Result<(), Fault>
@@ -96,7 +96,37 @@ pub(crate) fn write_deref<T: DisplaySink>(out: &mut T, reg: Reg) -> Result<(), F
     write_text(out, b"]")
 }
 
-// Where the address is written back, this has no text.
+// An address with its offset inside.
+pub(crate) fn write_preindex<T: DisplaySink, O: Offset>(
+    out: &mut T,
+    base: Reg,
+    offset: O,
+    add: bool,
+    wback: bool,
+) -> Result<(), Fault>
+    ensures { Printed T.meaning T.kept (text_items (codes "[") ++ (reg_items base ++ (O.items offset add ++ text_items (codes "]" ++ bang wback)))) out.old (outcome result) out.new }
+{
+    write_base(out, base)?;
+    offset.write(out, add)?;
+    write_close(out, wback)
+}
+
+// An address with its offset behind it.
+pub(crate) fn write_postindex<T: DisplaySink, O: Offset>(
+    out: &mut T,
+    base: Reg,
+    offset: O,
+    add: bool,
+    wback: bool,
+) -> Result<(), Fault>
+    ensures { Printed T.meaning T.kept (operand_items (RegDeref base) ++ (O.items offset add ++ text_items (bang wback))) out.old (outcome result) out.new }
+{
+    write_deref(out, base)?;
+    offset.write(out, add)?;
+    write_flagged(out, wback, b"!")
+}
+
+// A shift behind an address stands a blank further on. Where the address is written back, this has no text.
 pub(crate) fn write_postindex_reg_shift<T: DisplaySink>(
     out: &mut T,
     base: Reg,
@@ -108,79 +138,4 @@ pub(crate) fn write_postindex_reg_shift<T: DisplaySink>(
     write_base(out, base)?;
     write_past_blank(out, add)?;
     write_shift(out, shift)
-}
-
-// Kept: the three addresses with their offset inside are three functions, since what one wrote in the middle would have to come as a
-// closure over the sink.
-pub(crate) fn write_preindex_reg_shift<T: DisplaySink>(
-    out: &mut T,
-    base: Reg,
-    shift: RegShift,
-    add: bool,
-    wback: bool,
-) -> Result<(), Fault>
-    ensures { Printed T.meaning T.kept (operand_items (RegDerefPreindexRegShift base shift add wback)) out.old (outcome result) out.new }
-{
-    write_base(out, base)?;
-    write_comma(out, add)?;
-    write_shift(out, shift)?;
-    write_close(out, wback)
-}
-
-// It is not shown whether the address is written back.
-pub(crate) fn write_postindex_offset<T: DisplaySink>(
-    out: &mut T,
-    base: Reg,
-    offset: u16,
-    add: bool,
-) -> Result<(), Fault>
-    ensures { Printed T.meaning T.kept (operand_items (RegDerefPostindexOffset base offset add false)) out.old (outcome result) out.new }
-{
-    write_base(out, base)?;
-    write_text(out, b"]")?;
-    write_offset(out, offset, add)
-}
-
-pub(crate) fn write_preindex_offset<T: DisplaySink>(
-    out: &mut T,
-    base: Reg,
-    offset: u16,
-    add: bool,
-    wback: bool,
-) -> Result<(), Fault>
-    ensures { Printed T.meaning T.kept (operand_items (RegDerefPreindexOffset base offset add wback)) out.old (outcome result) out.new }
-{
-    write_base(out, base)?;
-    write_offset(out, offset, add)?;
-    write_close(out, wback)
-}
-
-pub(crate) fn write_postindex_reg<T: DisplaySink>(
-    out: &mut T,
-    base: Reg,
-    offset: Reg,
-    add: bool,
-    wback: bool,
-) -> Result<(), Fault>
-    ensures { Printed T.meaning T.kept (operand_items (RegDerefPostindexReg base offset add wback)) out.old (outcome result) out.new }
-{
-    write_base(out, base)?;
-    write_past(out, add)?;
-    write_reg(out, offset)?;
-    write_bang(out, wback)
-}
-
-pub(crate) fn write_preindex_reg<T: DisplaySink>(
-    out: &mut T,
-    base: Reg,
-    index: Reg,
-    add: bool,
-    wback: bool,
-) -> Result<(), Fault>
-    ensures { Printed T.meaning T.kept (operand_items (RegDerefPreindexReg base index add wback)) out.old (outcome result) out.new }
-{
-    write_base(out, base)?;
-    write_comma(out, add)?;
-    write_reg(out, index)?;
-    write_close(out, wback)
 }

@@ -5,8 +5,7 @@ ghost use Rattle.visitor.specs.Visits.{PrintedUnless};
 ghost use Rattle.writer.specs.Writing.{Written};
 
 use crate::address::{
-    write_deref, write_postindex_offset, write_postindex_reg, write_postindex_reg_shift,
-    write_preindex_offset, write_preindex_reg, write_preindex_reg_shift, write_reg_wback,
+    write_deref, write_postindex, write_postindex_reg_shift, write_preindex, write_reg_wback,
 };
 use crate::creg::write_creg;
 use crate::shift::write_shift;
@@ -70,9 +69,10 @@ impl<T: DisplaySink> OperandVisitor for DisplayingOperandVisitor<'_, T> {
         add: bool,
         wback: bool,
     ) -> Result<(), Fault> {
-        write_preindex_reg_shift(self.f, base, shift, add, wback)
+        write_preindex(self.f, base, shift, add, wback)
     }
 
+    // It is not shown whether the address is written back.
     fn visit_reg_deref_postindex_offset(
         &mut self,
         base: Reg,
@@ -80,7 +80,7 @@ impl<T: DisplaySink> OperandVisitor for DisplayingOperandVisitor<'_, T> {
         add: bool,
         _wback: bool,
     ) -> Result<(), Fault> {
-        write_postindex_offset(self.f, base, offset, add)
+        write_postindex(self.f, base, offset, add, false)
     }
 
     fn visit_reg_deref_preindex_offset(
@@ -90,7 +90,7 @@ impl<T: DisplaySink> OperandVisitor for DisplayingOperandVisitor<'_, T> {
         add: bool,
         wback: bool,
     ) -> Result<(), Fault> {
-        write_preindex_offset(self.f, base, offset, add, wback)
+        write_preindex(self.f, base, offset, add, wback)
     }
 
     fn visit_reg_deref_postindex_reg(
@@ -100,7 +100,7 @@ impl<T: DisplaySink> OperandVisitor for DisplayingOperandVisitor<'_, T> {
         add: bool,
         wback: bool,
     ) -> Result<(), Fault> {
-        write_postindex_reg(self.f, base, offset, add, wback)
+        write_postindex(self.f, base, offset, add, wback)
     }
 
     fn visit_reg_deref_preindex_reg(
@@ -110,7 +110,7 @@ impl<T: DisplaySink> OperandVisitor for DisplayingOperandVisitor<'_, T> {
         add: bool,
         wback: bool,
     ) -> Result<(), Fault> {
-        write_preindex_reg(self.f, base, offset, add, wback)
+        write_preindex(self.f, base, offset, add, wback)
     }
 
     fn visit_imm12(&mut self, imm: u16) -> Result<(), Fault> {

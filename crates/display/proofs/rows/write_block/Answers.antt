@@ -56,5 +56,5 @@ returns g c =
       printed = both laws (text_items (codes " ")) _ c.in_ok-write_text.ensures.printed
           (both laws base _ c.in_ok-write_reg_wback.ensures.printed
           (both laws (text_items (codes ", ")) _ c.in_ok-write_text-2.ensures.printed
-          (renamed (sym (append-nil (list ++ caret))) (both laws list caret c.in_ok-write_list.ensures.printed c.write_flagged.ensures))));
+          (renamed (sym (append-nil (list ++ caret))) (both laws list caret c.in_ok-write_list.ensures.printed c.write_flagged.ensures.printed))));
     }

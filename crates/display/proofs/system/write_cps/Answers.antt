@@ -13,8 +13,8 @@ returns-in_err-write_cps_flags g c =
     renamed (cps_pieces none letters c.args.mode)
     (stop g.T.DisplaySink.laws (cond none [] (text_items (codes " ") ++ text_items letters)) _ c.from_residual.result c.in_err-write_cps_flags.field-0.0 c.in_err-write_cps_flags.ensures c.from_residual.ensures.1)
 
-pub returns-in-Some : goal.returns-in-Some
-returns-in-Some g c =
+pub returns : goal.returns
+returns g c =
     let none = eqb c.args.flags 0 in
     let letters = cps_letters c.args.flags in
     renamed (cps_pieces none letters c.args.mode)

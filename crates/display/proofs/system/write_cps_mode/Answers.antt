@@ -4,9 +4,9 @@ use Rattle.visitor.specs.Texts.{prefixed}
 use Rattle.visitor.proofs.Pieces.{renamed, texts, text_stop}
 use Rattle.display.proofs.system.write_cps_mode.Goals as goal
 
-pub returns-in_err-write_text : goal.returns-in_err-write_text
-returns-in_err-write_text g c =
-    text_stop g.T.DisplaySink.laws _ _ c.from_residual.result c.in_err-write_text.field-0.0 (renamed (ap text_items c.before_mode.ensures) c.in_err-write_text.ensures.printed) c.from_residual.ensures.1
+pub returns-in_err-write_either : goal.returns-in_err-write_either
+returns-in_err-write_either g c =
+    text_stop g.T.DisplaySink.laws _ _ c.from_residual.result c.in_err-write_either.field-0.0 c.in_err-write_either.ensures.printed c.from_residual.ensures.1
 
 pub returns : goal.returns
-returns g c = texts g.T.DisplaySink.laws _ _ (renamed (ap text_items c.before_mode.ensures) c.in_ok-write_text.ensures.printed) (renamed (ap (λ n. text_items (prefixed 4 n)) c.from.ensures) (c.write_prefixed.ensures.printed 4 (omega arith) (omega arith)))
+returns g c = texts g.T.DisplaySink.laws _ _ c.in_ok-write_either.ensures.printed (renamed (ap (λ n. text_items (prefixed 4 n)) c.from.ensures) (c.write_prefixed.ensures.printed 4 (omega arith) (omega arith)))

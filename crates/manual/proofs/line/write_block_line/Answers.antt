@@ -34,11 +34,11 @@ returns-in_err-write_word-2 g c =
     let b = c.args.block in
     let suffix = suffix_text c.args.suffix in
     renamed (ap (λ stacked. line_of (cond stacked (short b suffix) (long b suffix))) c.if-is_on_stack.ensures)
-    (stop g.T.DisplaySink.laws (word_items (block_name b.transfer.load b.transfer.add b.transfer.pre ++ suffix)) _ c.from_residual-in_err-write_word-2.result c.in_err-write_word-2.field-0.0 (renamed (ap (λ n. word_items (n ++ suffix)) c.name_of_block.ensures) c.in_err-write_word-2.ensures.printed) c.from_residual-in_err-write_word-2.ensures.1)
+    (stop g.T.DisplaySink.laws (word_items (block_name b.transfer.load b.transfer.add b.transfer.pre ++ suffix)) _ c.from_residual-in_err-write_word-2.result c.in_err-write_word-2.field-0.0 (renamed (ap (λ n. word_items (n ++ suffix)) c.requires) c.in_err-write_word-2.ensures.printed) c.from_residual-in_err-write_word-2.ensures.1)
 
 pub returns-in_ok-write_word-2 : goal.returns-in_ok-write_word-2
 returns-in_ok-write_word-2 g c =
     let b = c.args.block in
     let suffix = suffix_text c.args.suffix in
     renamed (ap (λ stacked. line_of (cond stacked (short b suffix) (long b suffix))) c.if-is_on_stack.ensures)
-    (both g.T.DisplaySink.laws (word_items (block_name b.transfer.load b.transfer.add b.transfer.pre ++ suffix)) _ (renamed (ap (λ n. word_items (n ++ suffix)) c.name_of_block.ensures) c.in_ok-write_word-2.ensures.printed) c.write_block.ensures.printed)
+    (both g.T.DisplaySink.laws (word_items (block_name b.transfer.load b.transfer.add b.transfer.pre ++ suffix)) _ (renamed (ap (λ n. word_items (n ++ suffix)) c.requires) c.in_ok-write_word-2.ensures.printed) c.write_block.ensures.printed)

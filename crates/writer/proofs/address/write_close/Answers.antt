@@ -5,4 +5,4 @@ use Rattle.writer.proofs.Choices.{close}
 use Rattle.writer.proofs.address.write_close.Goals as goal
 
 pub returns : goal.returns
-returns g c = renamed (ap text_items (close c.args.wback)) c.write_either.ensures
+returns g c = renamed (ap text_items (close c.args.wback)) c.write_either.ensures.printed

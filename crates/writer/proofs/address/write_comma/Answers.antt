@@ -5,4 +5,4 @@ use Rattle.writer.proofs.Choices.{comma}
 use Rattle.writer.proofs.address.write_comma.Goals as goal
 
 pub returns : goal.returns
-returns g c = renamed (ap text_items (comma c.args.add)) c.write_either.ensures
+returns g c = renamed (ap text_items (comma c.args.add)) c.write_either.ensures.printed

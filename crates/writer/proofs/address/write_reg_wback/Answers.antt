@@ -12,4 +12,4 @@ returns-in_err-write_reg g c =
 pub returns : goal.returns
 returns g c =
     let laws = g.T.DisplaySink.laws in
-    record { printed = both laws (reg_items c.args.reg) _ c.in_ok-write_reg.ensures.printed c.write_bang.ensures }
+    record { printed = both laws (reg_items c.args.reg) _ c.in_ok-write_reg.ensures.printed c.write_flagged.ensures.printed }
