@@ -1,5 +1,6 @@
 -- What is said of a line that cannot be read. Assumes nothing.
-use Rattle.std.specs.Prelude.{ℕ, ◌/◌, ◌%◌, cond, ◌&&◌, List, [], ◌∷◌, ◌++◌, Some, None, codes, decimal, Option, nat_le, slice_index}
+use Rattle.std.specs.Prelude.{ℕ, ◌/◌, ◌%◌, false, cond, ◌&&◌, List, [], ◌∷◌, ◌++◌, flat_map, Some, None, codes, decimal, Option, nat_le}
+use Rattle.std.specs.Fmt.{digit_glyph}
 use Rattle.armv7.specs.Faults.{refusal, fault_word}
 use Rattle.armv7.specs.declared.fault.Fault.{Fault}
 use Rattle.misreading.specs.declared.misread.Expected.{Expected}
@@ -31,11 +32,10 @@ expected_text ShiftWord = codes "a shift word"
 
 -- a byte of printable ASCII as it is, and every other by its number: `\x` and two hexadecimal digits
 abbrev pub shown_byte : ℕ → List ℕ
-shown_byte b = cond (nat_le 32 b && nat_le b 126) (b ∷ []) (92 ∷ 120 ∷ slice_index (codes "0123456789abcdef") (b / 16) ∷ slice_index (codes "0123456789abcdef") (b % 16) ∷ [])
+shown_byte b = cond (nat_le 32 b && nat_le b 126) (b ∷ []) (92 ∷ 120 ∷ digit_glyph false (b / 16) ∷ digit_glyph false (b % 16) ∷ [])
 
 abbrev pub shown : List ℕ → List ℕ
-shown [] = []
-shown (b ∷ bs) = shown_byte b ++ shown bs
+shown bs = flat_map shown_byte bs
 
 abbrev pub refusal_text : Option Fault → List ℕ
 refusal_text None = []

@@ -1,13 +1,12 @@
 // The message on a line that cannot be read.
-ghost use Rattle.std.specs.Prelude.{◌≡◌, ◌++◌, IfOk, OnOk};
-ghost use Rattle.misreading.specs.Messages.{or_at_end, expected_text, refusal_text, shown_byte, shown, message_with, message_of};
+ghost use Rattle.std.specs.Prelude.{◌≡◌, ◌++◌, IfOk, OnOk, Some};
+ghost use Rattle.misreading.specs.Messages.{or_at_end, expected_text, refusal_text, shown, message_with, message_of};
 
 use crate::misread::{Expected, Misread};
 use armv7::Fault;
 use std::alloc::{AllocError, Global};
-
-// Kept: the digits stand in text too, which this crate does not stand on.
-const HEX: [u8; 16] = *b"0123456789abcdef";
+use std::fmt;
+use std::fmt::Write;
 
 // A token, or that the line ends there.
 pub fn or_end(text: &[u8]) -> &[u8]
@@ -47,12 +46,12 @@ impl Expected {
 
 // What is said of the line with this number: where it cannot be read, what was expected there and what was found, of which
 // a byte that is not printable is told by its number.
-// Kept: bytes in place of a Display, as in record, whose found bytes need be no text.
+// Kept: bytes in place of a Display, since all but what was found is made for record too, where that need be no text.
 pub fn message(heap: Global, line: u64, misread: &Misread<'_>) -> Result<Vec<u8>, AllocError>
     ensures text { IfOk result (λ v. v.items ≡ message_of line misread.now) }
 {
-    let found = printable(heap, or_end(misread.found))?;
-    message_showing(heap, line, misread, found.as_slice())
+    let found = Printable(or_end(misread.found)).to_string(heap)?;
+    message_showing(heap, line, misread, found.as_bytes())
 }
 
 // The same with another text for what was found.
@@ -74,30 +73,21 @@ pub fn message_showing(
     Ok(text)
 }
 
-// A text of any bytes.
-fn printable(heap: Global, text: &[u8]) -> Result<Vec<u8>, AllocError>
-    ensures { IfOk result (λ v. v.items ≡ shown text.now) }
-{
-    let mut made = Vec::new(heap);
-    for b in text {
-        add_byte(&mut made, *b)?;
-    }
-    Ok(made)
-}
+// Bytes as text: one that is not printable is told by its number.
+#[derive(Clone, Copy)]
+struct Printable<'a>(&'a [u8]);
 
-// A byte that is not printable is told by its number.
-fn add_byte(text: &mut Vec<u8>, b: u8) -> Result<(), AllocError>
-    ensures { OnOk result (text.new.items ≡ text.old.items ++ shown_byte b) }
-{
-    if b >= 32 && b <= 126 {
-        text.extend_from_slice(&[b])
-    } else {
-        text.extend_from_slice(&[
-            b'\\',
-            b'x',
-            HEX[usize::from(b / 16)],
-            HEX[usize::from(b % 16)],
-        ])
+impl fmt::Display for Printable<'_> {
+    ghost output = { λ text. Some (shown text.0.now) };
+
+    fn fmt<W: fmt::Write>(&self, f: &mut fmt::Formatter<W>) -> fmt::Result {
+        for b in self.0 {
+            match *b {
+                b @ b' '..=b'~' => f.write_char(char::from(b))?,
+                b => write!(f, "\\x{b:02x}")?,
+            }
+        }
+        Ok(())
     }
 }
 

@@ -244,16 +244,12 @@ impl<'a> Cursor<'a> {
         let Some(n) = numeral_of(token.text, T::MOST) else {
             return Err(Slip::new(expected));
         };
-        match T::from_number(n) {
-            Ok(value) => {
-                self.at = token.end;
-                Ok(value)
-            }
-            Err(fault) => Err(Slip {
-                expected,
-                refusal: Some(fault),
-            }),
-        }
+        let value = T::from_number(n).map_err(|fault| Slip {
+            expected,
+            refusal: Some(fault),
+        })?;
+        self.at = token.end;
+        Ok(value)
     }
 
     // What follows a minus.
@@ -261,13 +257,11 @@ impl<'a> Cursor<'a> {
         ensures { Reads (numbered AnyDistance 2147483648 negative) self.old result self.new }
     {
         let token = self.token();
-        match numeral_of(token.text, 2147483648) {
-            Some(n) if n > 0 => {
-                self.at = token.end;
-                Ok((-i64::from(n)) as i32)
-            }
-            _ => Err(Slip::new(Expected::Distance)),
-        }
+        let Some(n @ 1..) = numeral_of(token.text, 2147483648) else {
+            return Err(Slip::new(Expected::Distance));
+        };
+        self.at = token.end;
+        Ok((-i64::from(n)) as i32)
     }
 
     // A part in parentheses.

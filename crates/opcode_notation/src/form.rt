@@ -1,9 +1,11 @@
 // The opcodes that are told more in parentheses, by what stands there.
 // Kept: kinds in place of functions in a table, since a kind needs no clause of its own, and a function in a table would.
 ghost use Rattle.std.specs.Prelude.{◌≡◌};
+ghost use Rattle.opcode.specs.declared.Opcode.{Opcode};
 ghost use Rattle.opcode_notation.specs.Opcodes.{one_flag, two_flags, four_flags, one_code, two_codes, three_codes};
 
 use armv7::Opcode;
+use notation::Part;
 
 // A flag.
 #[derive(Clone, Copy)]
@@ -73,11 +75,24 @@ pub enum Form {
     Operation(ThreeCodes),
 }
 
-// Kept: a method for each kind, since they take other values and other numbers of them.
-impl OneFlag {
-    pub(crate) fn with(self, a: bool) -> Opcode
-        ensures { result ≡ one_flag self a }
-    {
+// Opcodes that are told the same kind of values.
+pub(crate) trait Told: Copy {
+    // What stands in the parentheses.
+    type Values: Part;
+
+    // The opcode with these values.
+    ghost meaning: { Self → Self.Values → Opcode };
+
+    fn with(self, values: Self::Values) -> Opcode
+        ensures { result ≡ meaning self values };
+}
+
+impl Told for OneFlag {
+    type Values = bool;
+
+    ghost meaning = { one_flag };
+
+    fn with(self, a: bool) -> Opcode {
         match self {
             OneFlag::Smlaw => Opcode::SMLAW(a),
             OneFlag::Cps => Opcode::CPS(a),
@@ -88,10 +103,12 @@ impl OneFlag {
     }
 }
 
-impl TwoFlags {
-    pub(crate) fn with(self, a: bool, b: bool) -> Opcode
-        ensures { result ≡ two_flags self a b }
-    {
+impl Told for TwoFlags {
+    type Values = (bool, bool);
+
+    ghost meaning = { λ f x. two_flags f x.0 x.1 };
+
+    fn with(self, (a, b): (bool, bool)) -> Opcode {
         match self {
             TwoFlags::Srs => Opcode::SRS(a, b),
             TwoFlags::Rfe => Opcode::RFE(a, b),
@@ -103,10 +120,12 @@ impl TwoFlags {
     }
 }
 
-impl FourFlags {
-    pub(crate) fn with(self, a: bool, b: bool, c: bool, d: bool) -> Opcode
-        ensures { result ≡ four_flags self a b c d }
-    {
+impl Told for FourFlags {
+    type Values = ((bool, bool), (bool, bool));
+
+    ghost meaning = { λ f x. four_flags f x.0.0 x.0.1 x.1.0 x.1.1 };
+
+    fn with(self, ((a, b), (c, d)): ((bool, bool), (bool, bool))) -> Opcode {
         match self {
             FourFlags::Ldm => Opcode::LDM(a, b, c, d),
             FourFlags::Stm => Opcode::STM(a, b, c, d),
@@ -114,10 +133,12 @@ impl FourFlags {
     }
 }
 
-impl OneCode {
-    pub(crate) fn with(self, a: u8) -> Opcode
-        ensures { result ≡ one_code self a }
-    {
+impl Told for OneCode {
+    type Values = u8;
+
+    ghost meaning = { one_code };
+
+    fn with(self, a: u8) -> Opcode {
         match self {
             OneCode::Ldc => Opcode::LDC(a),
             OneCode::Ldcl => Opcode::LDCL(a),
@@ -131,10 +152,12 @@ impl OneCode {
     }
 }
 
-impl TwoCodes {
-    pub(crate) fn with(self, a: u8, b: u8) -> Opcode
-        ensures { result ≡ two_codes self a b }
-    {
+impl Told for TwoCodes {
+    type Values = (u8, u8);
+
+    ghost meaning = { λ f x. two_codes f x.0 x.1 };
+
+    fn with(self, (a, b): (u8, u8)) -> Opcode {
         match self {
             TwoCodes::Mcrr2 => Opcode::MCRR2(a, b),
             TwoCodes::Mrrc2 => Opcode::MRRC2(a, b),
@@ -144,10 +167,12 @@ impl TwoCodes {
     }
 }
 
-impl ThreeCodes {
-    pub(crate) fn with(self, a: u8, b: u8, c: u8) -> Opcode
-        ensures { result ≡ three_codes self a b c }
-    {
+impl Told for ThreeCodes {
+    type Values = ((u8, u8), u8);
+
+    ghost meaning = { λ f x. three_codes f x.0.0 x.0.1 x.1 };
+
+    fn with(self, ((a, b), c): ((u8, u8), u8)) -> Opcode {
         match self {
             ThreeCodes::Mcr2 => Opcode::MCR2(a, b, c),
             ThreeCodes::Mrc2 => Opcode::MRC2(a, b, c),

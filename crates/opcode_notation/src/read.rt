@@ -1,8 +1,9 @@
 // Opcodes.
+ghost use Rattle.notation.specs.Parsing.{bracketed, via};
 ghost use Rattle.notation.specs.Reads.{Reads};
 ghost use Rattle.opcode_notation.specs.Opcodes.{opcode, opcode_with};
 
-use crate::form::Form;
+use crate::form::{Form, Told};
 use crate::words::{form_of, plain_of};
 use armv7::Opcode;
 use misreading::Expected;
@@ -21,37 +22,27 @@ pub fn read_opcode(cursor: &mut Cursor<'_>) -> Result<Opcode, Slip>
         return Err(Slip::new(Expected::Opcode));
     };
     cursor.at = token.end;
-    told(cursor, form)
+    opcode_of(cursor, form)
 }
 
 // What stands in parentheses after the word.
-fn told(cursor: &mut Cursor<'_>, form: Form) -> Result<Opcode, Slip>
+fn opcode_of(cursor: &mut Cursor<'_>, form: Form) -> Result<Opcode, Slip>
     ensures { Reads (opcode_with form) cursor.old result cursor.new }
 {
     match form {
-        Form::Flag(form) => {
-            let flag = cursor.bracketed()?;
-            Ok(form.with(flag))
-        }
-        Form::Flags(form) => {
-            let (a, b) = cursor.bracketed()?;
-            Ok(form.with(a, b))
-        }
-        Form::Block(form) => {
-            let ((a, b), (c, d)) = cursor.bracketed()?;
-            Ok(form.with(a, b, c, d))
-        }
-        Form::Code(form) => {
-            let code = cursor.bracketed()?;
-            Ok(form.with(code))
-        }
-        Form::Codes(form) => {
-            let (a, b) = cursor.bracketed()?;
-            Ok(form.with(a, b))
-        }
-        Form::Operation(form) => {
-            let ((a, b), c) = cursor.bracketed()?;
-            Ok(form.with(a, b, c))
-        }
+        Form::Flag(form) => told(cursor, form),
+        Form::Flags(form) => told(cursor, form),
+        Form::Block(form) => told(cursor, form),
+        Form::Code(form) => told(cursor, form),
+        Form::Codes(form) => told(cursor, form),
+        Form::Operation(form) => told(cursor, form),
     }
+}
+
+// An opcode of this kind, with the values that stand there.
+fn told<F: Told>(cursor: &mut Cursor<'_>, form: F) -> Result<Opcode, Slip>
+    ensures { Reads (via (F.meaning form) (bracketed F.Values.parser)) cursor.old result cursor.new }
+{
+    let values = cursor.bracketed()?;
+    Ok(form.with(values))
 }

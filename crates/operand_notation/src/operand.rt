@@ -104,13 +104,13 @@ fn named(cursor: &mut Cursor<'_>, name: Name) -> Result<Operand, Slip>
     ensures { Reads (operand_with name) cursor.old result cursor.new }
 {
     match name {
-        Name::Register => cursor.bracketed().map(|x| Operand::Reg(x)),
+        Name::Register => cursor.bracketed().map(Operand::Reg),
         Name::WrittenBack => cursor
             .bracketed()
             .map(|(reg, back)| Operand::RegWBack(reg, back)),
-        Name::Registers => cursor.bracketed().map(|x| Operand::RegList(x)),
-        Name::Address => cursor.bracketed().map(|x| Operand::RegDeref(x)),
-        Name::Shifted => cursor.bracketed().map(|x| Operand::RegShift(x)),
+        Name::Registers => cursor.bracketed().map(Operand::RegList),
+        Name::Address => cursor.bracketed().map(Operand::RegDeref),
+        Name::Shifted => cursor.bracketed().map(Operand::RegShift),
         Name::PostShifted => {
             let ((base, shift), (add, back)) = cursor.bracketed()?;
             Ok(Operand::RegDerefPostindexRegShift(base, shift, add, back))
@@ -135,18 +135,18 @@ fn named(cursor: &mut Cursor<'_>, name: Name) -> Result<Operand, Slip>
             let ((base, index), (add, back)) = cursor.bracketed()?;
             Ok(Operand::RegDerefPreindexReg(base, index, add, back))
         }
-        Name::Twelve => cursor.bracketed().map(|x| Operand::Imm12(x)),
-        Name::Word => cursor.bracketed().map(|x| Operand::Imm32(x)),
-        Name::Branch => cursor.bracketed().map(|x| Operand::BranchOffset(x)),
-        Name::ThumbBranch => cursor.bracketed().map(|x| Operand::BranchThumbOffset(x)),
-        Name::Coprocessor => cursor.bracketed().map(|x| Operand::Coprocessor(x)),
-        Name::Choice => cursor.bracketed().map(|x| Operand::CoprocOption(x)),
-        Name::Control => cursor.bracketed().map(|x| Operand::CReg(x)),
+        Name::Twelve => cursor.bracketed().map(Operand::Imm12),
+        Name::Word => cursor.bracketed().map(Operand::Imm32),
+        Name::Branch => cursor.bracketed().map(Operand::BranchOffset),
+        Name::ThumbBranch => cursor.bracketed().map(Operand::BranchThumbOffset),
+        Name::Coprocessor => cursor.bracketed().map(Operand::Coprocessor),
+        Name::Choice => cursor.bracketed().map(Operand::CoprocOption),
+        Name::Control => cursor.bracketed().map(Operand::CReg),
         Name::Banked => cursor
             .bracketed()
             .map(|(bank, reg)| Operand::BankedReg(bank, reg)),
-        Name::BankedStatus => cursor.bracketed().map(|x| Operand::BankedSPSR(x)),
-        Name::Mask => cursor.bracketed().map(|x| Operand::StatusRegMask(x)),
+        Name::BankedStatus => cursor.bracketed().map(Operand::BankedSPSR),
+        Name::Mask => cursor.bracketed().map(Operand::StatusRegMask),
         Name::Application => Ok(Operand::APSR),
         Name::Saved => Ok(Operand::SPSR),
         Name::Current => Ok(Operand::CPSR),

@@ -1,8 +1,8 @@
 // Reads one line of a record.
 ghost use Rattle.std.specs.Prelude.{IfOk, IfErr, Option};
 ghost use Rattle.notation.specs.Tokens.{tokens};
-ghost use Rattle.call_notation.specs.Law.{Says, CanCall, Answers};
-ghost use Rattle.record.specs.Law.{Found};
+ghost use Rattle.call_notation.specs.Law.{CanCall as IsLawful};
+ghost use Rattle.record.specs.Law.{Says, CanCall, Answers, Found};
 
 use armv7::Call;
 use misreading::{Given, Misread};
@@ -11,7 +11,7 @@ use notation::Cursor;
 // The call that the line asks for, none if it is blank or a comment, or what cannot be read in it.
 pub fn read_line(line: &[u8]) -> Result<Option<Call>, Misread<'_>>
     ensures sound { IfOk result (Says (tokens line.now)) }
-    ensures lawful { IfOk result CanCall }
+    ensures lawful { IfOk result IsLawful }
     ensures complete { (c : Option Call) → CanCall c → Says (tokens line.now) c → Answers result c }
     ensures place { IfErr result (Found line.now) }
 {
