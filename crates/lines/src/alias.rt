@@ -1,7 +1,7 @@
 // The four forms that are printed under another name.
 ghost use Rattle.std.specs.Prelude.{◌≡◌};
 ghost use Rattle.lines.specs.Codes.{on_stack, one_on_stack};
-ghost use Rattle.lines.specs.Lines.{stack_direction, stack_name};
+ghost use Rattle.lines.specs.Lines.{stack_name};
 
 use crate::operands::is_nothing;
 use armv7::{Operand, Reg};
@@ -36,22 +36,27 @@ pub fn stack_register(load: bool, operands: &[Operand; 4]) -> Option<Reg>
     }
 }
 
-// Whether a block transfer goes the way of a pop or a push.
-fn is_stack_way(load: bool, add: bool, pre: bool) -> bool
-    ensures { result ≡ stack_direction load add pre }
-{
-    if load { add && !pre } else { !add && pre }
-}
-
 // Whether a block transfer is a pop or a push.
 pub fn stacks(transfer: Transfer, base: Reg, wback: bool) -> bool
     ensures value { result ≡ on_stack transfer base wback }
 {
-    let on_sp = base == Reg::R13 && wback;
-    is_stack_way(transfer.load, transfer.add, transfer.pre)
-        && !transfer.wback
-        && !transfer.user
-        && on_sp
+    match transfer {
+        Transfer {
+            load: true,
+            add: true,
+            pre: false,
+            wback: false,
+            user: false,
+        }
+        | Transfer {
+            load: false,
+            add: false,
+            pre: true,
+            wback: false,
+            user: false,
+        } => base == Reg::R13 && wback,
+        _ => false,
+    }
 }
 
 // What a pop or a push is called.

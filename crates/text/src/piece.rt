@@ -54,12 +54,19 @@ pub fn write_reg<T: DisplaySink>(out: &mut T, reg: Reg) -> Result<(), Fault>
     write_spanned(out, reg.name())
 }
 
-fn write_in_bank<T: DisplaySink>(out: &mut T, word: &[u8], bank: Bank) -> Result<(), Fault>
+// A text, and behind it the bank's letters.
+fn write_in_bank<T: DisplaySink>(out: &mut T, front: &[u8], bank: Bank) -> Result<(), Fault>
+    ensures { Printed T.meaning T.kept (text_items (front.now ++ bank_name bank)) out.old (outcome result) out.new }
+{
+    write_text(out, front)?;
+    write_text(out, bank.name())
+}
+
+fn write_name_in_bank<T: DisplaySink>(out: &mut T, word: &[u8], bank: Bank) -> Result<(), Fault>
     ensures { Printed T.meaning T.kept (text_items (word.now ++ (codes "_" ++ bank_name bank))) out.old (outcome result) out.new }
 {
     write_text(out, word)?;
-    write_text(out, b"_")?;
-    write_text(out, bank.name())
+    write_in_bank(out, b"_", bank)
 }
 
 // A banked register.
@@ -68,14 +75,18 @@ pub fn write_banked_reg<T: DisplaySink>(out: &mut T, word: &[u8], bank: Bank) ->
     ensures printed { Printed T.meaning T.kept (spanned (word.now ++ (codes "_" ++ bank_name bank))) out.old (outcome result) out.new }
 {
     out.span_start_register();
-    write_in_bank(out, word, bank)?;
+    write_name_in_bank(out, word, bank)?;
     out.span_end_register();
     Ok(())
 }
 
 // The status register of a bank.
+// Kept: no banked register of the word `spsr`, since `spsr_` is written whole, by a rule of the project.
 pub fn write_banked_spsr<T: DisplaySink>(out: &mut T, bank: Bank) -> Result<(), Fault>
     ensures printed { Printed T.meaning T.kept (spanned (codes "spsr_" ++ bank_name bank)) out.old (outcome result) out.new }
 {
-    write_banked_reg(out, b"spsr", bank)
+    out.span_start_register();
+    write_in_bank(out, b"spsr_", bank)?;
+    out.span_end_register();
+    Ok(())
 }
