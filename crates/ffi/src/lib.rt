@@ -71,10 +71,7 @@ fn print_text(instruction: &Instruction, out: &mut [u8]) -> Answer
 pub extern "C" fn dithwellor_read(line: &[u8]) -> usize
     ensures column { ColumnOf line.now result }
 {
-    match read_line(line) {
-        Ok(_) => 0,
-        Err(misread) => misread.column,
-    }
+    read_line(line).map_or_else(|misread| misread.column, |_| 0)
 }
 
 #[unsafe(no_mangle)]
@@ -94,12 +91,6 @@ pub extern "C" fn dithwellor_print(line: &[u8], out: &mut [u8], answer: &mut Ans
 
 // A line has at most 130 marks.
 const MARKS: usize = 130;
-
-const NO_MARK: Mark = Mark {
-    edge: Edge::Start,
-    span: Span::Opcode,
-    at: 0,
-};
 
 // Kept: numbers for the kinds, since a program in C takes a mark as one number.
 fn edge_code(edge: Edge) -> u64
@@ -150,11 +141,11 @@ fn print_marks(instruction: &Instruction, out: &mut [u8], row: &mut [u64]) -> An
     ensures memory { HoldsText (Some instruction.now) out.old out.new }
     ensures row { row.new ≡ over (numbers_shown (length row.old) (length out.old) (Some instruction.now)) row.old }
 {
-    let mut marks = [NO_MARK; MARKS];
+    let mut marks = [Mark::BLANK; MARKS];
     let mut sink = MarkSink::new(out, &mut marks);
     let answer = visit_inst(instruction, &mut sink);
-    let (length, count) = sink.end();
-    let written = number_marks(&marks[..count.min(MARKS)], row);
+    let written = number_marks(sink.marks(), row);
+    let (length, _) = sink.end();
     answered(answer, length, written)
 }
 

@@ -3,6 +3,7 @@
 
 #[cfg(test)]
 mod tests {
+    use armv7::Fault;
     use record::{Call, read_line};
 
     // Damaged lines, each with the column of what cannot be read.
@@ -32,10 +33,8 @@ mod tests {
         read_line(line).map_or_else(|misread| misread.column, |_| 0)
     }
 
-    // Kept: the number, which is what the rules give a refusal.
-    fn refusal(line: &[u8]) -> u8 {
-        let refused = read_line(line).err().and_then(|misread| misread.refusal);
-        refused.map_or(0, |fault| fault.number())
+    fn refusal(line: &[u8]) -> Option<Fault> {
+        read_line(line).err().and_then(|misread| misread.refusal)
     }
 
     #[test]
@@ -47,9 +46,9 @@ mod tests {
 
     #[test]
     fn refusals_are_told(rt: HostRuntime) {
-        assert_eq!(rt; refusal(DAMAGED[7].0), 1);
-        assert_eq!(rt; refusal(DAMAGED[8].0), 2);
-        assert_eq!(rt; refusal(DAMAGED[0].0), 0);
+        assert!(rt; refusal(DAMAGED[7].0) == Some(Fault::Register));
+        assert!(rt; refusal(DAMAGED[8].0) == Some(Fault::ShiftWord));
+        assert!(rt; refusal(DAMAGED[0].0) == None);
     }
 
     #[test]

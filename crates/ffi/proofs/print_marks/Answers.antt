@@ -1,4 +1,4 @@
-use Rattle.std.proofs.Common.{◌≡◌, ◌≤◌, min, length, take, sym, ap, ◌∙◌, subst, arith, take_all, length-take}
+use Rattle.std.proofs.Common.{◌≡◌, length, sym, ap, ◌∙◌, subst, take_all}
 use Rattle.sink.specs.Items.{marks_from}
 use Rattle.sink.specs.MarkSinks.{mark_meaning, MarkKept, mark_laws}
 use Rattle.sink.specs.Outcome.{outcome}
@@ -18,12 +18,7 @@ returns c =
     let same = c.new-sink.ensures.memory.0 in
     let told = shows mark_meaning MarkKept mark_laws (line i) _ 130 c.new-sink.result c.visit_inst-answer.new.out (outcome c.visit_inst-answer.result) (refused i) empty c.visit_inst-answer.ensures.printed_or_refused in
     let items = items_unless (refused i) (length c.args.out.now) (line i) in
-    let count = c.end-length.result.1 in
-    let few : count ≤ 130 = omega (arith, c.end-length.ensures.value.1, ap length told.marks, length-take 130 (marks_from 0 items)) in
-    let all : min count 130 ≡ count = omega (arith, few) in
-    let held : take c.min.result c.marks-2-1.given.0 ≡ marks_from 0 items = ap (λ k. take k c.marks-2-1.given.0) (c.min.ensures ∙ all)
-    ∙ ap (take count) (c.marks-2-1.given.1.1 (sym (told.rest.row ∙ c.new-sink.ensures.row.1)) ∙ c.end-length.ensures.row)
-    ∙ c.end-length.ensures.marks
+    let held : c.marks.result.now ≡ marks_from 0 items = c.marks.ensures.value
     ∙ told.marks
     ∙ take_all 130 (marks_from 0 items) (marks_within (refused i) 130 (length c.args.out.now) (line i) (λ e. (lines_bounded i e).marks)) in
     record {
