@@ -15,7 +15,7 @@ pub fn read_line(line: &[u8]) -> Result<Option<Call>, Misread<'_>>
     ensures complete { (c : Option Call) → CanCall c → Says (tokens line.now) c → Answers result c }
     ensures place { IfErr result (Found line.now) }
 {
-    // Kept: the closure of a `map_err` would need the clause of brace_first again.
+    // Kept: the closure of a `map_err` would pass references at two lifetimes, which the checker does not cover.
     match call_notation::read_line(line) {
         Ok(call) => Ok(call),
         Err(misread) => Err(brace_first(line, misread)),
