@@ -9,6 +9,7 @@ use blocks::transfer::sheet;
 use page::{Entry, PageFault};
 use sink::{Edge, Mark, Span};
 use std::alloc::{AllocError, Global};
+use std::fmt;
 use std::fmt::Write;
 use wording::{Characters, Refusal, Totals, Transfer};
 
@@ -18,16 +19,23 @@ pub struct Account {
     totals: Totals,
 }
 
-fn push_mark(text: &mut String, mark: &Mark) -> Result<(), AllocError> {
-    let span = match mark.span {
-        Span::Opcode => "opcode",
-        Span::Register => "register",
-    };
-    let edge = match mark.edge {
-        Edge::Start => "starts",
-        Edge::End => "ends",
-    };
-    writeln!(text, "{span} {edge} at {}", mark.at)
+// A mark that is shown as its span, its edge and its place.
+#[derive(Clone, Copy)]
+struct Marking<'a>(&'a Mark);
+
+impl fmt::Display for Marking<'_> {
+    fn fmt<W: fmt::Write>(&self, f: &mut fmt::Formatter<W>) -> fmt::Result {
+        let Mark { edge, span, at } = self.0;
+        let span = match span {
+            Span::Opcode => "opcode",
+            Span::Register => "register",
+        };
+        let edge = match edge {
+            Edge::Start => "starts",
+            Edge::End => "ends",
+        };
+        write!(f, "{span} {edge} at {at}")
+    }
 }
 
 // What a printed line is, and in the spelling that was asked for.
@@ -94,7 +102,7 @@ impl Account {
         writeln!(self.text, "page lines: {}", page.count)?;
         if options.marks {
             for mark in page.marks.iter() {
-                push_mark(&mut self.text, mark)?;
+                writeln!(self.text, "{}", Marking(mark))?;
             }
         }
         Ok(())
@@ -111,7 +119,7 @@ pub(crate) fn of(
     let mut account = Account {
         text: String::new(heap),
         totals: Totals {
-            misread: calls.misread,
+            misread: calls.misreadings.count,
             ..Totals::default()
         },
     };

@@ -1,9 +1,8 @@
 // The calls of a record, each with the number of its line, and what is said of lines that could not be read.
 use armv7::Call;
-use call_notation::{Misread, message, read_line};
+use call_notation::{message, read_line};
 use std::alloc::{AllocError, Global};
-use std::fmt::Write;
-use wording::Characters;
+use wording::Misreadings;
 
 // A call, and the line that it stands on.
 #[derive(Clone, Copy)]
@@ -15,31 +14,20 @@ pub struct Numbered {
 #[derive(Drop)]
 pub struct Calls {
     pub numbered: Vec<Numbered>,
-    pub messages: String,
-    pub misread: u64,
+    pub misreadings: Misreadings,
 }
 
 impl Calls {
-    fn misread(
-        &mut self,
-        heap: Global,
-        number: u64,
-        misread: &Misread<'_>,
-    ) -> Result<(), AllocError> {
-        let told = message(heap, number, misread)?;
-        writeln!(self.messages, "{}", Characters(told.as_slice()))?;
-        self.misread = self.misread.saturating_add(1);
-        Ok(())
-    }
-
     // One line of the record.
     fn line(&mut self, heap: Global, number: u64, line: &[u8]) -> Result<(), AllocError> {
         match read_line(line) {
-            Ok(None) => {}
-            Ok(Some(call)) => self.numbered.push(Numbered { line: number, call })?,
-            Err(misread) => self.misread(heap, number, &misread)?,
+            Ok(None) => Ok(()),
+            Ok(Some(call)) => Ok(self.numbered.push(Numbered { line: number, call })?),
+            Err(misread) => {
+                let told = message(heap, number, &misread)?;
+                self.misreadings.add(told.as_slice())
+            }
         }
-        Ok(())
     }
 }
 
@@ -47,8 +35,7 @@ impl Calls {
 pub(crate) fn of(heap: Global, record: &[u8]) -> Result<Calls, AllocError> {
     let mut calls = Calls {
         numbered: Vec::new(heap),
-        messages: String::new(heap),
-        misread: 0,
+        misreadings: Misreadings::none(heap),
     };
     for (line, number) in record.split(|b| *b == b'\n').zip(1..) {
         calls.line(heap, number, line)?;

@@ -64,8 +64,8 @@ fn run(rt: &HostRuntime) -> anyhow::Result<()> {
     let lines = account::lines(heap, &page, &options)?;
     let account = account::of(heap, &calls, &page, &options)?;
     show(rt, &options, lines.as_str(), &account)?;
-    rt.eprint(calls.messages.as_str())?;
-    if calls.misread > 0 {
+    rt.eprint(calls.misreadings.text.as_str())?;
+    if calls.misreadings.count > 0 {
         return Err(anyhow!("a line of the record could not be read"));
     }
     Ok(())

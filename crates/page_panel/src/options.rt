@@ -3,7 +3,7 @@ use anyhow::anyhow;
 use std::env;
 
 // Kept: a flag for each option, since each is given or not, by itself, and nothing else is told of it.
-#[derive(Drop)]
+#[derive(Default, Drop)]
 pub struct Options {
     pub help: bool,
     pub page: bool,
@@ -14,61 +14,28 @@ pub struct Options {
     pub file: Option<String>,
 }
 
-// How the next word of the command is to be read.
-// Kept: a `for` over the words ends by itself, and takes one word at a time.
-#[derive(Clone, Copy)]
-enum Next {
-    Option,
-    Room,
-}
-
-fn room_of(word: &str) -> anyhow::Result<usize> {
-    word.parse()
-        .map_err(|_| anyhow!("--room wants a number of bytes"))
-}
-
-impl Options {
-    fn option(&mut self, word: String) -> anyhow::Result<Next> {
-        match word.as_str() {
-            "--help" => self.help = true,
-            "--page" => self.page = true,
-            "--marks" => self.marks = true,
-            "--manual" => self.manual = true,
-            "--color" => self.color = true,
-            "--room" => return Ok(Next::Room),
-            text => {
-                if text.starts_with("--") {
-                    return Err(anyhow!("an option is not known: see page_panel --help"));
-                }
-                self.file = Some(word);
-            }
-        }
-        Ok(Next::Option)
-    }
+// The number of bytes that stands behind `--room`.
+fn room_of(word: Option<String>) -> anyhow::Result<usize> {
+    word.and_then(|word| word.parse().ok())
+        .ok_or_else(|| anyhow!("--room wants a number of bytes"))
 }
 
 pub(crate) fn given(rt: &HostRuntime) -> anyhow::Result<Options> {
-    let mut options = Options {
-        help: false,
-        page: false,
-        marks: false,
-        manual: false,
-        color: false,
-        room: None,
-        file: None,
-    };
-    let mut next = Next::Option;
-    for word in env::args(rt)?.skip(1) {
-        next = match next {
-            Next::Option => options.option(word)?,
-            Next::Room => {
-                options.room = Some(room_of(word.as_str())?);
-                Next::Option
+    let mut options = Options::default();
+    let mut words = env::args(rt)?.skip(1);
+    while let Some(word) = words.next() {
+        match word.as_str() {
+            "--help" => options.help = true,
+            "--page" => options.page = true,
+            "--marks" => options.marks = true,
+            "--manual" => options.manual = true,
+            "--color" => options.color = true,
+            "--room" => options.room = Some(room_of(words.next())?),
+            text if text.starts_with("--") => {
+                return Err(anyhow!("an option is not known: see page_panel --help"));
             }
-        };
+            _ => options.file = Some(word),
+        }
     }
-    match next {
-        Next::Option => Ok(options),
-        Next::Room => Err(anyhow!("--room wants a number of bytes")),
-    }
+    Ok(options)
 }

@@ -2,18 +2,18 @@
 use armv7::{Fault, Instruction};
 use blocks::transfer::sheet;
 use buffer::InstructionTextBuffer;
-use record::{Call, Misread, message, read_line};
+use record::{Call, message, read_line};
 use std::alloc::{AllocError, Global};
 use std::fmt::Write;
-use wording::{Characters, Refusal, Totals, Transfer};
+use wording::{Characters, Misreadings, Refusal, Totals, Transfer};
 
 #[derive(Drop)]
 pub struct Account {
     // The printed lines.
     pub page: String,
     pub text: String,
-    pub messages: String,
-    pub totals: Totals,
+    pub misreadings: Misreadings,
+    totals: Totals,
 }
 
 impl Account {
@@ -56,24 +56,15 @@ impl Account {
         Ok(())
     }
 
-    fn misread(
-        &mut self,
-        heap: Global,
-        number: u64,
-        misread: &Misread<'_>,
-    ) -> Result<(), AllocError> {
-        let told = message(heap, number, misread)?;
-        writeln!(self.messages, "{}", Characters(told.as_slice()))?;
-        self.totals.misread = self.totals.misread.saturating_add(1);
-        Ok(())
-    }
-
     // One line of the record.
     fn line(&mut self, heap: Global, number: u64, line: &[u8]) -> Result<(), AllocError> {
         match read_line(line) {
             Ok(None) => Ok(()),
             Ok(Some(call)) => self.call(number, &call),
-            Err(misread) => self.misread(heap, number, &misread),
+            Err(misread) => {
+                let told = message(heap, number, &misread)?;
+                self.misreadings.add(told.as_slice())
+            }
         }
     }
 
@@ -91,13 +82,16 @@ pub(crate) fn of(heap: Global, record: &str) -> Result<Account, AllocError> {
     let mut account = Account {
         page: String::new(heap),
         text: String::new(heap),
-        messages: String::new(heap),
+        misreadings: Misreadings::none(heap),
         totals: Totals::default(),
     };
     for (line, number) in record.lines().zip(1..) {
         account.line(heap, number, line.as_bytes())?;
     }
-    let totals = account.totals;
+    let totals = Totals {
+        misread: account.misreadings.count,
+        ..account.totals
+    };
     writeln!(account.text, "{totals}")?;
     Ok(account)
 }

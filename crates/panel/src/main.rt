@@ -33,7 +33,7 @@ fn show(rt: &HostRuntime, options: &Options, account: &Account) -> anyhow::Resul
     } else {
         rt.print(account.text.as_str())?;
     }
-    rt.eprint(account.messages.as_str())?;
+    rt.eprint(account.misreadings.text.as_str())?;
     Ok(())
 }
 
@@ -46,7 +46,7 @@ fn run(rt: &HostRuntime) -> anyhow::Result<()> {
     let record = record_of(rt, &options)?;
     let account = account::of(rt.alloc(), record.as_str())?;
     show(rt, &options, &account)?;
-    if account.totals.misread > 0 {
+    if account.misreadings.count > 0 {
         return Err(anyhow!("a line of the record could not be read"));
     }
     Ok(())

@@ -2,7 +2,7 @@
 use std::env;
 
 // Kept: a flag for each option, since each is given or not, by itself, and nothing else is told of it.
-#[derive(Drop)]
+#[derive(Default, Drop)]
 pub struct Options {
     pub help: bool,
     pub page: bool,
@@ -10,11 +10,7 @@ pub struct Options {
 }
 
 pub(crate) fn given(rt: &HostRuntime) -> anyhow::Result<Options> {
-    let mut options = Options {
-        help: false,
-        page: false,
-        file: None,
-    };
+    let mut options = Options::default();
     for word in env::args(rt)?.skip(1) {
         match word.as_str() {
             "--help" => options.help = true,

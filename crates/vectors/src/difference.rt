@@ -1,4 +1,5 @@
 // The listed differences, and those that a case shows.
+use armv7::Fault;
 use std::fmt;
 
 // Where the original's answer is not the printer's.
@@ -62,18 +63,27 @@ impl Difference {
         Difference::WriteBack,
     ];
 
-    // Whether the printer refuses with this number where the original shows the difference.
-    fn refuses(self, number: u8) -> bool {
-        match self {
-            Difference::ShiftWord => number == 2,
-            Difference::Code => number == 3,
-            Difference::BlockShape | Difference::ItShape | Difference::ModeShape => number == 4,
-            Difference::ItConditionCut | Difference::ItMask => number == 5,
-            Difference::CpsFlags | Difference::ItCondition => number == 5,
-            Difference::CpsUnshown => number == 6 || number == 7 || number == 8,
-            Difference::Coprocessor => number == 6,
-            Difference::WriteBack => number == 7,
-            Difference::Distance => number == 8,
+    // Whether this is a refusal with which the printer answers where the original shows the difference.
+    fn refuses(self, fault: Fault) -> bool {
+        match fault {
+            Fault::ShiftWord => matches!(self, Difference::ShiftWord),
+            Fault::CodeNumber => matches!(self, Difference::Code),
+            Fault::Shape => matches!(
+                self,
+                Difference::BlockShape | Difference::ItShape | Difference::ModeShape
+            ),
+            Fault::Field(_) => matches!(
+                self,
+                Difference::ItConditionCut
+                    | Difference::ItMask
+                    | Difference::CpsFlags
+                    | Difference::ItCondition
+            ),
+            Fault::DeadOperand(_) => {
+                matches!(self, Difference::CpsUnshown | Difference::Coprocessor)
+            }
+            Fault::WriteBack(_) => matches!(self, Difference::CpsUnshown | Difference::WriteBack),
+            Fault::Displacement(_) => matches!(self, Difference::CpsUnshown | Difference::Distance),
             _ => false,
         }
     }
@@ -151,8 +161,8 @@ impl Seen {
         all
     }
 
-    // Whether one of the differences is refused with this number.
-    pub(crate) fn refuse(&self, number: u8) -> bool {
-        Difference::ALL.iter().any(|difference| self.has(*difference) && difference.refuses(number))
+    // Whether one of the differences is refused so.
+    pub(crate) fn refuse(&self, fault: Fault) -> bool {
+        Difference::ALL.iter().any(|difference| self.has(*difference) && difference.refuses(fault))
     }
 }

@@ -2,31 +2,19 @@
 use crate::difference::Difference;
 use crate::family::exchange_of;
 use crate::line::Draft;
-use crate::repair::is_nothing;
-use armv7::{ConditionCode, Instruction, Operand, Reg, RegShift, RegShiftStyle, ShiftStyle};
-use kind::{Codes, Kind, Suffixes, Transfer, kind_by};
+use armv7::{ConditionCode, Instruction, Operand, RegShift, RegShiftStyle, ShiftStyle};
+use kind::{Kind, Suffixes, Transfer, kind_by};
+use lines::{is_nothing, letter_count, stacks};
 use std::alloc::AllocError;
 use wording::Characters;
 
 // Whether the original prints a pop or a push: it does not ask for the user flag.
 fn is_stacked(block: Transfer, first: Operand) -> bool {
-    !block.wback
-        && block.add == block.load
-        && block.pre != block.load
-        && matches!(first, Operand::RegWBack(Reg::R13, true))
-}
-
-// How many letters stand behind the suffix of IT: as many as there are bits above the lowest one that is set.
-fn it_letters(second: Operand) -> usize {
-    match second {
-        Operand::Imm32(mask) => match mask.trailing_zeros() {
-            0 => 3,
-            1 => 2,
-            2 => 1,
-            _ => 0,
-        },
-        _ => 0,
-    }
+    let asked = Transfer {
+        user: false,
+        ..block
+    };
+    matches!(first, Operand::RegWBack(base, wback) if stacks(asked, base, wback))
 }
 
 // How a shift by the amount 0 is shown here and there.
@@ -130,13 +118,9 @@ impl Draft {
     }
 
     fn shifts_as_written(&mut self, operands: [Operand; 4]) -> Result<(), AllocError> {
-        for operand in operands {
-            if is_nothing(operand) {
-                break;
-            }
-            if let Some(shift) = shift_in(operand) {
-                self.shift_as_written(shift)?;
-            }
+        let reached = operands.iter().take_while(|operand| !is_nothing(**operand));
+        for shift in reached.filter_map(|operand| shift_in(*operand)) {
+            self.shift_as_written(shift)?;
         }
         Ok(())
     }
@@ -160,24 +144,17 @@ impl Draft {
     // What the original does with the word's suffix.
     fn suffix_as_written(&mut self, asked: &Instruction) -> Result<(), AllocError> {
         let condition = asked.condition;
-        if matches!(condition, ConditionCode::AL) {
+        if condition == ConditionCode::AL {
             return Ok(());
         }
-        let [_, second, _, _] = asked.operands;
-        match kind_by(asked.opcode) {
-            Kind::Coprocessor(
-                Codes {
-                    suffixes: Suffixes::Conditional,
-                    ..
-                },
-            ) => self.without_condition(condition),
-            Kind::Coprocessor(
-                Codes {
-                    suffixes: Suffixes::Bare,
-                    ..
-                },
-            ) => Ok(()),
-            Kind::It if asked.thumb_w => self.width_as_written(condition, it_letters(second)),
+        match (kind_by(asked.opcode), asked.operands) {
+            (Kind::Coprocessor(codes), _) if matches!(codes.suffixes, Suffixes::Conditional) => {
+                self.without_condition(condition)
+            }
+            (Kind::Coprocessor(codes), _) if matches!(codes.suffixes, Suffixes::Bare) => Ok(()),
+            (Kind::It, [_, Operand::Imm32(mask), _, _]) if asked.thumb_w => {
+                self.width_as_written(condition, letter_count(mask))
+            }
             _ if asked.thumb_w => self.width_as_written(condition, 0),
             _ => Ok(()),
         }

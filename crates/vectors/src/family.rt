@@ -1,6 +1,6 @@
 // What the differences ask of an opcode, beside its kind.
 use armv7::Opcode;
-use kind::{Codes, Kind, Suffixes, kind_by};
+use kind::{Codes, Suffixes};
 
 // How the original writes the codes of a coprocessor form.
 #[derive(Clone, Copy)]
@@ -18,14 +18,6 @@ pub(crate) fn style_of(codes: Codes) -> Style {
         (Suffixes::Full, _) => Style::Unwritten,
         (_, None) => Style::Teens,
         (_, Some(_)) => Style::Characters,
-    }
-}
-
-// The codes of a coprocessor form, if the opcode is one.
-pub(crate) fn codes_of(opcode: Opcode) -> Option<Codes> {
-    match kind_by(opcode) {
-        Kind::Coprocessor(codes) => Some(codes),
-        _ => None,
     }
 }
 

@@ -1,6 +1,6 @@
 // Judges a case: the printer's answer against the original's.
 use crate::difference::{Difference, Seen};
-use crate::line::{Draft, Line};
+use crate::line::{Draft, Line, Stored};
 use crate::repair::repaired;
 use armv7::{Fault, Instruction, Operand, Place};
 use display::visit_inst;
@@ -8,13 +8,12 @@ use kind::{Kind, kind_by};
 use sink::{Edge, Mark, MarkSink, Span};
 use std::alloc::{AllocError, Global};
 
-// What the original answered, as it is stored.
-// Kept: an Option would not say that it panicked.
+// The original panicked.
 #[derive(Clone, Copy)]
-pub enum Answer<'a> {
-    Line { text: &'a str, marks: &'a str },
-    Panicked,
-}
+pub struct Panicked;
+
+// What the original answered.
+pub type Answer<'a> = Result<Stored<'a>, Panicked>;
 
 #[derive(Clone, Copy)]
 pub enum Verdict {
@@ -39,44 +38,28 @@ fn print(heap: Global, instruction: &Instruction) -> Result<Result<Line, Fault>,
     let mut memory = [0u8; BYTES];
     let mut row = [NO_MARK; MARKS];
     let mut out = MarkSink::new(&mut memory, &mut row);
-    let answer = visit_inst(instruction, &mut out);
-    let (length, count) = out.end();
-    if let Err(fault) = answer {
+    if let Err(fault) = visit_inst(instruction, &mut out) {
         return Ok(Err(fault));
     }
+    let (length, count) = out.end();
     let text = Vec::from_slice(heap, &memory[..length.min(BYTES)])?;
     let marks = Vec::from_slice(heap, &row[..count.min(MARKS)])?;
     Ok(Ok(Line { text, marks }))
 }
 
-fn at(operands: [Operand; 4], place: Place) -> Operand {
-    let [first, second, third, fourth] = operands;
-    match place {
-        Place::First => first,
-        Place::Second => second,
-        Place::Third => third,
-        Place::Fourth => fourth,
-    }
-}
-
 // The panic that the refusal stands for.
 fn stop(fault: Fault, instruction: &Instruction) -> Option<Difference> {
-    match fault {
-        Fault::Shape => match kind_by(instruction.opcode) {
-            Kind::Block(_) => Some(Difference::BlockShape),
-            Kind::It => Some(Difference::ItShape),
-            Kind::Cps | Kind::Setend => Some(Difference::ModeShape),
-            _ => None,
-        },
-        Fault::Field(Place::First) => match kind_by(instruction.opcode) {
-            Kind::It => Some(Difference::ItCondition),
-            _ => None,
-        },
-        Fault::DeadOperand(place) => match at(instruction.operands, place) {
+    let operand = |place: Place| instruction.operands[usize::from(place.index())];
+    match (fault, kind_by(instruction.opcode)) {
+        (Fault::Shape, Kind::Block(_)) => Some(Difference::BlockShape),
+        (Fault::Shape, Kind::It) => Some(Difference::ItShape),
+        (Fault::Shape, Kind::Cps | Kind::Setend) => Some(Difference::ModeShape),
+        (Fault::Field(Place::First), Kind::It) => Some(Difference::ItCondition),
+        (Fault::DeadOperand(place), _) => match operand(place) {
             Operand::Coprocessor(_) => Some(Difference::Coprocessor),
             _ => None,
         },
-        Fault::WriteBack(place) => match at(instruction.operands, place) {
+        (Fault::WriteBack(place), _) => match operand(place) {
             Operand::RegDerefPostindexRegShift(_, _, _, true) => Some(Difference::WriteBack),
             _ => None,
         },
@@ -84,21 +67,17 @@ fn stop(fault: Fault, instruction: &Instruction) -> Option<Difference> {
     }
 }
 
+// `draft` is the printer's line, with what was put right for it.
 fn judge_line(
-    heap: Global,
+    mut draft: Draft,
     asked: &Instruction,
-    line: Line,
     answer: Answer<'_>,
-    seen: Seen,
 ) -> Result<Verdict, AllocError> {
-    let Answer::Line { text, marks } = answer else {
+    let Ok(stored) = answer else {
         return Ok(Verdict::Unexplained);
     };
-    let mut draft = Draft { heap, line, seen };
     draft.as_written(asked)?;
-    let same_text = draft.line.told_text(heap)?.as_str() == text;
-    let same_marks = draft.line.told_marks(heap)?.as_str() == marks;
-    if !same_text || !same_marks {
+    if !draft.is_stored(stored)? {
         return Ok(Verdict::Unexplained);
     }
     if draft.seen.is_empty() {
@@ -109,7 +88,7 @@ fn judge_line(
 
 fn judge_refusal(fault: Fault, taken: &Instruction, answer: Answer<'_>, mut seen: Seen) -> Verdict {
     match (answer, stop(fault, taken)) {
-        (Answer::Panicked, Some(difference)) => {
+        (Err(Panicked), Some(difference)) => {
             seen.add(difference);
             Verdict::Stopped(seen)
         }
@@ -127,14 +106,14 @@ pub(crate) fn judge(
     let mut seen = Seen::nothing();
     let taken = repaired(asked, &mut seen);
 
-    // The refusal of what was asked has a number of the differences that were seen; what was not repaired is judged as it is.
-    let refused_so = print(heap, asked)?.is_err_and(|fault| seen.refuse(fault.number()));
+    // What was asked is refused as one of the differences that were seen is; what was not repaired is judged as it is.
+    let refused_so = print(heap, asked)?.is_err_and(|fault| seen.refuse(fault));
     if !seen.is_empty() && !refused_so {
         return Ok(Verdict::Unexplained);
     }
-    let known = seen.joined(read);
+    let seen = seen.joined(read);
     match print(heap, &taken)? {
-        Ok(line) => judge_line(heap, asked, line, answer, known),
-        Err(fault) => Ok(judge_refusal(fault, &taken, answer, known)),
+        Ok(line) => judge_line(Draft { heap, line, seen }, asked, answer),
+        Err(fault) => Ok(judge_refusal(fault, &taken, answer, seen)),
     }
 }

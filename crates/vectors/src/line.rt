@@ -2,6 +2,7 @@
 use crate::difference::{Difference, Seen};
 use sink::{Edge, Mark, Span};
 use std::alloc::{AllocError, Global};
+use std::fmt;
 use std::fmt::Write;
 
 #[derive(Drop)]
@@ -10,46 +11,54 @@ pub struct Line {
     pub marks: Vec<Mark>,
 }
 
-// A byte as it stands in the stored answers.
-fn push_byte(out: &mut String, byte: u8) -> Result<(), AllocError> {
-    if byte < 32 || byte > 126 || byte == b'\\' {
-        write!(out, "\\x{byte:02x}")
-    } else {
-        out.push(char::from(byte))
+// A line and its marks, as they are stored.
+#[derive(Clone, Copy)]
+pub struct Stored<'a> {
+    pub text: &'a str,
+    pub marks: &'a str,
+}
+
+// Bytes that are shown as the stored answers have them.
+#[derive(Clone, Copy)]
+struct Text<'a>(&'a [u8]);
+
+impl fmt::Display for Text<'_> {
+    fn fmt<W: fmt::Write>(&self, f: &mut fmt::Formatter<W>) -> fmt::Result {
+        f.write_str("= ")?;
+        for byte in self.0 {
+            if *byte < 32 || *byte > 126 || *byte == b'\\' {
+                write!(f, "\\x{byte:02x}")?;
+            } else {
+                f.write_char(char::from(*byte))?;
+            }
+        }
+        Ok(())
     }
 }
 
-fn push_mark(out: &mut String, mark: &Mark) -> Result<(), AllocError> {
-    let edge = match mark.edge {
-        Edge::Start => 's',
-        Edge::End => 'e',
-    };
-    let span = match mark.span {
-        Span::Opcode => 'o',
-        Span::Register => 'r',
-    };
-    write!(out, " {edge}{span}{}", mark.at)
+// Marks that are shown as the stored answers have them.
+#[derive(Clone, Copy)]
+struct Marks<'a>(&'a [Mark]);
+
+impl fmt::Display for Marks<'_> {
+    fn fmt<W: fmt::Write>(&self, f: &mut fmt::Formatter<W>) -> fmt::Result {
+        f.write_str("m")?;
+        for mark in self.0 {
+            let edge = match mark.edge {
+                Edge::Start => 's',
+                Edge::End => 'e',
+            };
+            let span = match mark.span {
+                Span::Opcode => 'o',
+                Span::Register => 'r',
+            };
+            write!(f, " {edge}{span}{}", mark.at)?;
+        }
+        Ok(())
+    }
 }
 
 impl Line {
-    // The text as the stored answers have it.
-    pub(crate) fn told_text(&self, heap: Global) -> Result<String, AllocError> {
-        let mut out = String::from_str(heap, "= ")?;
-        for byte in self.text.iter() {
-            push_byte(&mut out, *byte)?;
-        }
-        Ok(out)
-    }
-
-    // The marks as the stored answers have them.
-    pub(crate) fn told_marks(&self, heap: Global) -> Result<String, AllocError> {
-        let mut out = String::from_str(heap, "m")?;
-        for mark in self.marks.iter() {
-            push_mark(&mut out, mark)?;
-        }
-        Ok(out)
-    }
-
     // Where the word ends: the second mark is the end of its span.
     pub(crate) fn word_end(&self) -> usize {
         match self.marks.as_slice() {
@@ -87,6 +96,13 @@ pub struct Draft {
 }
 
 impl Draft {
+    // Whether the line is stored so.
+    pub(crate) fn is_stored(&self, stored: Stored<'_>) -> Result<bool, AllocError> {
+        let text = Text(self.line.text.as_slice()).to_string(self.heap)?;
+        let marks = Marks(self.line.marks.as_slice()).to_string(self.heap)?;
+        Ok(text.as_str() == stored.text && marks.as_str() == stored.marks)
+    }
+
     // Puts `theirs` where `ours` stands at `at`; false if something else stands there. Marks behind that place move along.
     pub(crate) fn put(
         &mut self,

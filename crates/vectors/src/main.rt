@@ -18,8 +18,7 @@ fn run(rt: &HostRuntime) -> anyhow::Result<()> {
     let stored = io::read_to_string(rt.alloc(), rt.stdin())?;
     let tally = tally::of(rt.alloc(), stored.as_str())?;
     rt.print(tally.puzzles.as_str())?;
-    let told = tally.told(rt.alloc())?;
-    rt.print(told.as_str())?;
+    rt.print(&tally)?;
     if tally.unexplained > 0 {
         return Err(anyhow!("an answer of the original is not explained"));
     }

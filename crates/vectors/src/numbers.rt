@@ -2,9 +2,10 @@
 use crate::difference::Difference;
 use crate::family::{Style, small, style_of};
 use crate::line::Draft;
-use crate::repair::{is_nothing, is_too_far};
+use crate::repair::is_too_far;
 use armv7::Operand;
 use kind::Codes;
+use lines::is_nothing;
 use std::alloc::{AllocError, Global};
 
 // The printer's text of a code, which is 0 in the repaired instruction if it is above 15.
@@ -77,18 +78,13 @@ impl Draft {
     // The distances that go too far, which are 0 in the repaired instruction: the branches have the signs `$` in their order.
     pub(crate) fn far_branches(&mut self, operands: [Operand; 4]) -> Result<(), AllocError> {
         let mut from = 0;
-        for operand in operands {
-            if is_nothing(operand) {
-                break;
-            }
-            if !is_branch(operand) {
-                continue;
-            }
+        let reached = operands.iter().take_while(|operand| !is_nothing(**operand));
+        for branch in reached.filter(|operand| is_branch(**operand)) {
             let Some(at) = self.line.find(from, b"$") else {
                 break;
             };
-            if is_too_far(operand) {
-                let text = far_text(self.heap, operand)?;
+            if is_too_far(*branch) {
+                let text = far_text(self.heap, *branch)?;
                 let _ = self.put(at, b"$+0x0", text.as_bytes())?;
             }
             from = at.saturating_add(1);

@@ -3,10 +3,7 @@ use crate::difference::{Difference, Seen};
 use crate::family::with_small_codes;
 use armv7::{Instruction, Operand};
 use kind::{Codes, Kind, kind_by};
-
-pub(crate) fn is_nothing(operand: Operand) -> bool {
-    matches!(operand, Operand::Nothing)
-}
+use lines::is_nothing;
 
 // Whether the scale takes the distance of a branch out of 32 bits.
 pub(crate) fn is_too_far(operand: Operand) -> bool {
@@ -17,11 +14,8 @@ pub(crate) fn is_too_far(operand: Operand) -> bool {
     }
 }
 
-// A branch that goes too far, with no distance.
+// A branch with no distance.
 fn near(operand: Operand) -> Operand {
-    if !is_too_far(operand) {
-        return operand;
-    }
     match operand {
         Operand::BranchOffset(_) => Operand::BranchOffset(0),
         Operand::BranchThumbOffset(_) => Operand::BranchThumbOffset(0),
@@ -40,10 +34,10 @@ fn stops(operand: Operand) -> bool {
 // The operands that the original comes to, with branches that do not go too far.
 fn near_operands(operands: [Operand; 4], seen: &mut Seen) -> [Operand; 4] {
     let mut all = operands;
-    for operand in all.iter_mut() {
-        if is_nothing(*operand) || stops(*operand) {
-            break;
-        }
+    let reached = all
+        .iter_mut()
+        .take_while(|operand| !is_nothing(**operand) && !stops(**operand));
+    for operand in reached {
         if is_too_far(*operand) {
             seen.add(Difference::Distance);
             *operand = near(*operand);

@@ -1,8 +1,10 @@
 // Counts the verdicts, and tells them.
 use crate::cases::judge_case;
 use crate::difference::{COUNT, Difference, Seen};
-use crate::judge::{Answer, Verdict};
+use crate::judge::{Answer, Panicked, Verdict};
+use crate::line::Stored;
 use std::alloc::{AllocError, Global};
+use std::fmt;
 use std::fmt::Write;
 
 #[derive(Drop)]
@@ -22,8 +24,8 @@ impl Tally {
     fn show(&mut self, seen: &Seen) {
         for difference in Difference::ALL {
             if seen.has(difference) {
-                let shown = self.shown[difference as usize];
-                self.shown[difference as usize] = shown.saturating_add(1);
+                let shown = &mut self.shown[difference as usize];
+                *shown = shown.saturating_add(1);
             }
         }
     }
@@ -52,8 +54,10 @@ impl Tally {
         }
         Ok(())
     }
+}
 
-    pub(crate) fn told(&self, heap: Global) -> Result<String, AllocError> {
+impl fmt::Display for Tally {
+    fn fmt<W: fmt::Write>(&self, f: &mut fmt::Formatter<W>) -> fmt::Result {
         let Tally {
             cases,
             equal,
@@ -63,14 +67,15 @@ impl Tally {
             shown,
             puzzles: _,
         } = self;
-        let mut text = format!(in heap;
-            "{cases} answers of the original: {equal} equal in text and marks, {listed} with listed differences, {stopped} panics, {unexplained} unexplained\n"
+        writeln!(
+            f,
+            "{cases} answers of the original: {equal} equal in text and marks, {listed} with listed differences, {stopped} panics, {unexplained} unexplained"
         )?;
         for difference in Difference::ALL {
             let number = shown[difference as usize];
-            writeln!(text, "{number:>6}  {difference}")?;
+            writeln!(f, "{number:>6}  {difference}")?;
         }
-        Ok(text)
+        Ok(())
     }
 }
 
@@ -90,8 +95,8 @@ pub(crate) fn of(heap: Global, stored: &str) -> Result<Tally, AllocError> {
     for line in stored.lines() {
         match line.as_bytes() {
             [b'=', ..] => text = line,
-            [b'm', ..] => tally.judge(heap, case, Answer::Line { text, marks: line })?,
-            [b'!', ..] => tally.judge(heap, case, Answer::Panicked)?,
+            [b'm', ..] => tally.judge(heap, case, Ok(Stored { text, marks: line }))?,
+            [b'!', ..] => tally.judge(heap, case, Err(Panicked))?,
             _ => case = line,
         }
     }

@@ -3,12 +3,14 @@
 
 mod bytes;
 mod fault;
+mod misreadings;
 mod registers;
 mod totals;
 mod transfer;
 
 pub use bytes::Characters;
 pub use fault::Refusal;
+pub use misreadings::Misreadings;
 pub use totals::Totals;
 pub use transfer::Transfer;
 
@@ -95,6 +97,16 @@ mod tests {
         };
         let words = totals.to_string(rt.alloc())?;
         assert_eq!(rt; words.as_str(), "10 printed, 1 gaps, 1 refused, 0 not read");
+        Ok(())
+    }
+
+    #[test]
+    fn misreadings(rt: HostRuntime) -> Result<(), Fail> {
+        let mut misreadings = Misreadings::none(rt.alloc());
+        misreadings.add(b"line 1")?;
+        misreadings.add(&[b'a', 0xe9])?;
+        assert_eq!(rt; misreadings.text.as_str(), "line 1\naé\n");
+        assert_eq!(rt; misreadings.count, 2);
         Ok(())
     }
 

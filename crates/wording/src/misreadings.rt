@@ -1,0 +1,36 @@
+// What is said of the lines of a record that could not be read.
+ghost use Rattle.std.specs.Prelude.{◌≡◌, ◌+◌, ◌-◌, ◌^◌, min, [], ◌++◌, codes, OnOk, OnErr, string_bytes};
+ghost use Rattle.wording.specs.Words.{characters};
+
+use crate::bytes::Characters;
+use std::alloc::{AllocError, Global};
+use std::fmt::Write;
+
+// The messages, each on a line of its own, and how many there are.
+#[derive(Drop)]
+pub struct Misreadings {
+    pub text: String,
+    pub count: u64,
+}
+
+impl Misreadings {
+    pub fn none(heap: Global) -> Misreadings
+        ensures text { string_bytes result.text ≡ [] }
+        ensures count { result.count ≡ 0 }
+    {
+        Misreadings {
+            text: String::new(heap),
+            count: 0,
+        }
+    }
+
+    pub fn add(&mut self, message: &[u8]) -> Result<(), AllocError>
+        ensures text { OnOk result (string_bytes self.new.text ≡ string_bytes self.old.text ++ (characters message.now ++ codes "\n")) }
+        ensures count { OnOk result (self.new.count ≡ min (self.old.count + 1) (2 ^ 64 - 1)) }
+        ensures uncounted { OnErr result (self.new.count ≡ self.old.count) }
+    {
+        writeln!(self.text, "{}", Characters(message))?;
+        self.count = self.count.saturating_add(1);
+        Ok(())
+    }
+}
