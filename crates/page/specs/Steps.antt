@@ -1,19 +1,15 @@
--- One call of a page: what it is owed, and what it changes. Assumes nothing.
-use Rattle.std.specs.Prelude.{◌≡◌, ℕ, suc, ◌-◌, ◌^◌, min, List, length, Some, None, Option, Result}
+-- One call of a page: what it changes. Assumes nothing.
+use Rattle.std.specs.Prelude.{◌≡◌, ℕ, suc, ◌-◌, ◌^◌, min, List, Some, None, Option, Result}
 use Rattle.armv7.specs.Faults.{Refusal}
-use Rattle.sink.specs.Items.{Item, bytes}
+use Rattle.sink.specs.Items.{Item}
 use Rattle.sink.specs.Meaning.{Meaning, room}
 use Rattle.sink.specs.Printed.{taken}
 use Rattle.armv7.specs.declared.call.Call.{Call}
 use Rattle.page.specs.declared.entry.PageFault.{PageFault}
 use Rattle.page.specs.declared.page.Page.{Page}
-use Rattle.page.specs.Answers.{Told, lines, fault, told, told_by}
-use Rattle.page.specs.Rows.{row_refused, row}
-use Rattle.page.specs.Spellings.{Spelling, call_refused, call_line}
-
--- what a call is owed at this room, on a page of so many lines: its refusal, page full, or the next number
-abbrev pub owed : Spelling → ℕ → ℕ → ℕ → Call → Told
-owed s room count next c = told_by (row_refused (call_refused s c) room (length (bytes (call_line s c)))) count next
+use Rattle.page.specs.Answers.{Told, lines, fault, told, owed}
+use Rattle.page.specs.Rows.{row}
+use Rattle.page.specs.Spellings.{Spelling, call_line}
 
 -- the next count, in 64 bits
 abbrev pub counted : ℕ → ℕ

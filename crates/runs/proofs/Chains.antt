@@ -20,11 +20,11 @@ use Rattle.armv7.specs.declared.call.Call.TheVariants.{Print, Gap}
 use Rattle.page.specs.declared.entry.Entry.{Entry}
 use Rattle.page.specs.declared.entry.PageFault.{PageFault}
 use Rattle.page.specs.declared.page.Page.{Page}
-use Rattle.page.specs.Answers.{Told, lines, fault, told, told_by}
+use Rattle.page.specs.Answers.{Told, lines, fault, told, told_by, owed}
 use Rattle.page.specs.Rows.{row_refused, row}
 use Rattle.runs.specs.Runs.{called, if_accepted, accepted, page_items, call_lines, page_text, CutsInto, Run}
 use Rattle.page.specs.Spellings.{Spelling, FitsExactly, Lawful, own, call_refused, call_line, call_sheet}
-use Rattle.page.specs.Steps.{owed, counted, Changed, Step, made_on}
+use Rattle.page.specs.Steps.{counted, Changed, Step, made_on}
 use Rattle.page.proofs.Fits.{clash, row_fits}
 use Rattle.runs.specs.Chains.{Driven, made, then, StepsMakeRuns}
 use Rattle.runs.proofs.Lines.{accepted_append, items_append, bytes_page, none_there, Place, last, before, place}

@@ -7,9 +7,8 @@ use Rattle.blocks.specs.Bounds.{Bounded}
 use Rattle.blocks.specs.Pages.{page, Cut}
 use Rattle.armv7.specs.declared.call.Call.{Call}
 use Rattle.page.specs.declared.entry.Entry.{Entry}
-use Rattle.page.specs.Answers.{Told, lines, fault, told}
+use Rattle.page.specs.Answers.{Told, lines, fault, told, owed}
 use Rattle.page.specs.Spellings.{Spelling, FitsExactly, call_line, call_sheet}
-use Rattle.page.specs.Steps.{owed}
 
 abbrev pub called : Entry → Call
 called e = e.call
