@@ -127,12 +127,7 @@ fn worked_lines_are_printed(rt: HostRuntime) {
     for (condition, opcode, operands, text) in LINES {
         let instruction = Instruction {
             condition,
-            opcode,
-            operands,
-            s: false,
-            wide: false,
-            thumb_w: false,
-            thumb: false,
+            ..Instruction::plain(opcode, operands)
         };
         assert!(rt; has_line(&instruction, text));
     }

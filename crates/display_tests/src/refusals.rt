@@ -1,5 +1,5 @@
 // Refusals 3 to 8, at each place that can have them.
-use armv7::{ConditionCode, Fault, Instruction, Opcode, Operand, Reg, RegShift};
+use armv7::{Fault, Instruction, Opcode, Operand, Reg, RegShift};
 use display::visit_inst;
 use lines::admit;
 use measure::measure;
@@ -78,20 +78,7 @@ const REFUSED: [(Opcode, [Operand; 4], (u8, u8)); 15] = [
 // Opcodes of which each operand before the first Nothing is looked at.
 const REACHING: [Opcode; 4] = [Opcode::ADD, Opcode::LDR, Opcode::STR, Opcode::MCRR(0, 0)];
 
-// Kept: each crate of tests makes its instructions, and none hands code to another.
-fn made(opcode: Opcode, operands: [Operand; 4]) -> Instruction {
-    Instruction {
-        condition: ConditionCode::AL,
-        opcode,
-        operands,
-        s: false,
-        wide: false,
-        thumb_w: false,
-        thumb: false,
-    }
-}
-
-// Kept: numbers, which are what the rules give a refusal.
+// Kept: the number and the place, by which the rules name a refusal, are what these tests show.
 fn told(fault: Fault) -> (u8, u8) {
     (fault.number(), fault.place())
 }
@@ -109,7 +96,7 @@ fn is_refused(instruction: &Instruction, why: (u8, u8)) -> bool {
 #[test]
 fn rules_refuse(rt: HostRuntime) {
     for (opcode, operands, why) in REFUSED {
-        assert!(rt; is_refused(&made(opcode, operands), why));
+        assert!(rt; is_refused(&Instruction::plain(opcode, operands), why));
     }
 }
 
@@ -132,7 +119,7 @@ fn operands_are_refused_at_each_place(rt: HostRuntime) -> Result<(), Fail> {
             for (operand, number) in refused {
                 let mut operands = [R0; 4];
                 operands[place as usize] = operand;
-                assert!(rt; is_refused(&made(opcode, operands), (number, place)));
+                assert!(rt; is_refused(&Instruction::plain(opcode, operands), (number, place)));
             }
         }
     }

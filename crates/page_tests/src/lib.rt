@@ -3,49 +3,35 @@
 
 #[cfg(test)]
 mod tests {
-    use armv7::{Call, ConditionCode, Instruction, Opcode, Operand, Reg};
+    use armv7::{Call, Fault, Instruction, Opcode, Operand, Place, Reg};
     use page::{Entry, Page};
     use runs::run;
-    use sink::{DisplaySink, Edge, Mark, MarkSink, Span, TextSink};
-
-    // Kept: each crate of tests has its own, and none hands code to another.
-    const NO_MARK: Mark = Mark {
-        edge: Edge::Start,
-        span: Span::Opcode,
-        at: 0,
-    };
+    use sink::{DisplaySink, Mark, MarkSink, TextSink};
 
     // The line is `pop {r4, pc}`, of 12 bytes and 6 marks.
-    const POP: Call = Call::Print(Instruction {
-        condition: ConditionCode::AL,
-        opcode: Opcode::LDM(true, false, false, false),
-        operands: [
+    fn pop() -> Call {
+        let operands = [
             Operand::RegWBack(Reg::R13, true),
             Operand::RegList(0x8010),
             Operand::Nothing,
             Operand::Nothing,
-        ],
-        s: false,
-        wide: false,
-        thumb_w: false,
-        thumb: false,
-    });
+        ];
+        Call::Print(Instruction::plain(Opcode::LDM(true, false, false, false), operands))
+    }
 
     // Its second operand is one that has no text.
-    const DEAD: Call = Call::Print(Instruction {
-        condition: ConditionCode::AL,
-        opcode: Opcode::ADD,
-        operands: [
+    fn dead() -> Call {
+        let operands = [
             Operand::Reg(Reg::R0),
             Operand::Coprocessor(1),
             Operand::Nothing,
             Operand::Nothing,
-        ],
-        s: false,
-        wide: false,
-        thumb_w: false,
-        thumb: false,
-    });
+        ];
+        Call::Print(Instruction::plain(Opcode::ADD, operands))
+    }
+
+    // The refusal of the second operand.
+    const NO_TEXT: Fault = Fault::DeadOperand(Place::Second);
 
     fn entry(call: Call) -> Entry {
         Entry {
@@ -54,92 +40,90 @@ mod tests {
         }
     }
 
-    // The count, and the number and the place of a refusal.
-    // Kept: numbers, which are what the rules give a refusal.
-    fn told(entry: &Entry) -> (u64, u8, u8) {
-        match entry.answer {
-            Ok(count) => (count, 0, 0),
-            Err(refused) => (refused.count, refused.fault.number(), refused.fault.place()),
-        }
+    // The count, or a refusal with the count beside it.
+    fn told(entry: &Entry) -> Result<u64, (u64, Fault)> {
+        entry
+            .answer
+            .map_err(|refused| (refused.count, refused.fault))
     }
 
     #[test]
     fn a_print_fills_a_page(rt: HostRuntime) {
         let mut memory = [0u8; 13];
-        let mut entries = [entry(POP), entry(Call::Gap), entry(POP)];
+        let mut entries = [entry(pop()), entry(Call::Gap), entry(pop())];
         let closed = run(TextSink::new(&mut memory), &mut entries);
         assert_eq!(rt; closed.count(), 1);
         assert_eq!(rt; closed.end().end(), 13);
         assert!(rt; memory == *b"pop {r4, pc}\n");
-        assert_eq!(rt; told(&entries[0]), (1, 0, 0));
-        assert_eq!(rt; told(&entries[1]), (1, 10, 4));
-        assert_eq!(rt; told(&entries[2]), (1, 10, 4));
+        assert!(rt; told(&entries[0]) == Ok(1));
+        assert!(rt; told(&entries[1]) == Err((1, Fault::PageFull)));
+        assert!(rt; told(&entries[2]) == Err((1, Fault::PageFull)));
     }
 
     #[test]
     fn a_gap_fills_a_page(rt: HostRuntime) {
         let mut memory = [0u8; 14];
-        let mut entries = [entry(POP), entry(Call::Gap), entry(Call::Gap)];
+        let mut entries = [entry(pop()), entry(Call::Gap), entry(Call::Gap)];
         let closed = run(TextSink::new(&mut memory), &mut entries);
         assert_eq!(rt; closed.count(), 2);
         assert_eq!(rt; closed.end().end(), 14);
         assert!(rt; memory == *b"pop {r4, pc}\n\n");
-        assert_eq!(rt; told(&entries[1]), (2, 0, 0));
-        assert_eq!(rt; told(&entries[2]), (2, 10, 4));
+        assert!(rt; told(&entries[1]) == Ok(2));
+        assert!(rt; told(&entries[2]) == Err((2, Fault::PageFull)));
     }
 
     #[test]
     fn a_line_one_byte_too_long_is_refused(rt: HostRuntime) {
         let mut memory = [7u8; 12];
-        let mut entries = [entry(POP), entry(Call::Gap)];
+        let mut entries = [entry(pop()), entry(Call::Gap)];
         let closed = run(TextSink::new(&mut memory), &mut entries);
         assert_eq!(rt; closed.end().end(), 1);
         assert!(rt; memory == [10, 7, 7, 7, 7, 7, 7, 7, 7, 7, 7, 7]);
-        assert_eq!(rt; told(&entries[0]), (0, 10, 4));
-        assert_eq!(rt; told(&entries[1]), (1, 0, 0));
+        assert!(rt; told(&entries[0]) == Err((0, Fault::PageFull)));
+        assert!(rt; told(&entries[1]) == Ok(1));
     }
 
     #[test]
     fn refusals_leave_the_page(rt: HostRuntime) {
         let mut memory = [0u8; 20];
-        let mut entries = [entry(DEAD), entry(POP), entry(DEAD), entry(Call::Gap)];
+        let mut entries = [entry(dead()), entry(pop()), entry(dead()), entry(Call::Gap)];
         let closed = run(TextSink::new(&mut memory), &mut entries);
         assert_eq!(rt; closed.end().end(), 14);
-        assert_eq!(rt; told(&entries[0]), (0, 6, 1));
-        assert_eq!(rt; told(&entries[1]), (1, 0, 0));
-        assert_eq!(rt; told(&entries[2]), (1, 6, 1));
-        assert_eq!(rt; told(&entries[3]), (2, 0, 0));
+        assert!(rt; told(&entries[0]) == Err((0, NO_TEXT)));
+        assert!(rt; told(&entries[1]) == Ok(1));
+        assert!(rt; told(&entries[2]) == Err((1, NO_TEXT)));
+        assert!(rt; told(&entries[3]) == Ok(2));
     }
 
     #[test]
     fn what_the_sink_held_stays(rt: HostRuntime) {
         let mut memory = [0u8; 16];
-        let mut row = [NO_MARK; 4];
+        let mut row = [Mark::BLANK; 4];
         let mut out = MarkSink::new(&mut memory, &mut row);
         let _ = out.write(b"ab\n");
         out.span_end_register();
-        let mut entries = [entry(POP)];
+        let mut entries = [entry(pop())];
         let closed = run(out, &mut entries);
         assert_eq!(rt; closed.end().end(), (16, 4));
         assert!(rt; memory == *b"ab\npop {r4, pc}\n");
         assert!(rt; row.map(|mark| mark.at) == [3, 3, 6, 8]);
-        assert_eq!(rt; told(&entries[0]), (1, 0, 0));
+        assert!(rt; told(&entries[0]) == Ok(1));
     }
 
     // How many marks a page of one pop keeps, of so many.
     fn kept(row: &mut [Mark]) -> (usize, usize) {
         let mut memory = [0u8; 13];
-        let mut entries = [entry(POP)];
+        let mut entries = [entry(pop())];
         let closed = run(MarkSink::new(&mut memory, row), &mut entries);
         closed.end().end()
     }
 
     #[test]
     fn marks_stop_at_their_limit(rt: HostRuntime) {
-        let mut none = [NO_MARK; 0];
-        let mut one = [NO_MARK; 1];
-        let mut three = [NO_MARK; 3];
-        let mut many = [NO_MARK; 8];
+        let mut none = [Mark::BLANK; 0];
+        let mut one = [Mark::BLANK; 1];
+        let mut three = [Mark::BLANK; 3];
+        let mut many = [Mark::BLANK; 8];
         assert_eq!(rt; kept(&mut none), (13, 0));
         assert_eq!(rt; kept(&mut one), (13, 1));
         assert_eq!(rt; kept(&mut three), (13, 3));
@@ -149,17 +133,17 @@ mod tests {
     #[test]
     fn a_sink_of_no_room_takes_nothing(rt: HostRuntime) {
         let mut memory = [0u8; 1];
-        let mut row = [NO_MARK; 1];
-        let mut entries = [entry(POP), entry(DEAD), entry(Call::Gap)];
+        let mut row = [Mark::BLANK; 1];
+        let mut entries = [entry(pop()), entry(dead()), entry(Call::Gap)];
         let closed = run(
             MarkSink::new(&mut memory[0..0], &mut row[0..0]),
             &mut entries,
         );
         assert_eq!(rt; closed.count(), 0);
         assert_eq!(rt; closed.end().end(), (0, 0));
-        assert_eq!(rt; told(&entries[0]), (0, 10, 4));
-        assert_eq!(rt; told(&entries[1]), (0, 6, 1));
-        assert_eq!(rt; told(&entries[2]), (0, 10, 4));
+        assert!(rt; told(&entries[0]) == Err((0, Fault::PageFull)));
+        assert!(rt; told(&entries[1]) == Err((0, NO_TEXT)));
+        assert!(rt; told(&entries[2]) == Err((0, Fault::PageFull)));
     }
 
     #[test]
