@@ -17,10 +17,7 @@ const PLACES: [Place; 4] = [Place::First, Place::Second, Place::Third, Place::Fo
 pub fn is_nothing(operand: Operand) -> bool
     ensures value { result ≡ no_operand_there (shape operand) }
 {
-    match operand {
-        Operand::Nothing => true,
-        _ => false,
-    }
+    matches!(operand, Operand::Nothing)
 }
 
 // What an operand by itself is refused for.

@@ -12,7 +12,7 @@ pub fn flag_size(shown: bool) -> usize
     ensures value { result ≡ (if shown then 1 else 0) }
     ensures bound { result ≤ 1 }
 {
-    if shown { 1 } else { 0 }
+    usize::from(shown)
 }
 
 pub(crate) fn reg_size(reg: Reg) -> usize
