@@ -6,7 +6,7 @@ use kind::{Codes, Kind, kind_by};
 use lines::is_nothing;
 
 // Whether the scale takes the distance of a branch out of 32 bits.
-pub(crate) fn is_too_far(operand: Operand) -> bool {
+fn is_too_far(operand: Operand) -> bool {
     match operand {
         Operand::BranchOffset(distance) => distance < -536_870_912 || distance > 536_870_911,
         Operand::BranchThumbOffset(distance) => {
