@@ -1,4 +1,7 @@
 // The stored cases, read one after the other.
+ghost use Rattle.std.specs.Prelude.{Err};
+ghost use Rattle.call_notation.specs.Law.{Answered};
+
 use crate::difference::{Difference, Seen};
 use crate::judge::{Answer, Verdict, judge};
 use armv7::{Call, Fault};
@@ -34,9 +37,11 @@ fn with_word(
     line: &[u8],
     misread: &Misread<'_>,
     word: u16,
-) -> Result<Vec<u8>, AllocError> {
-    let start = misread.column.saturating_sub(1).min(line.len());
-    let end = start.saturating_add(misread.found.len()).min(line.len());
+) -> Result<Vec<u8>, AllocError>
+    requires { Answered line.now (Err misread.now) }
+{
+    let start = misread.column - 1;
+    let end = start + misread.found.len();
     let number = format!(in heap; "{word}")?;
     let mut text = Vec::from_slice(heap, &line[..start])?;
     text.extend_from_slice(number.as_bytes())?;

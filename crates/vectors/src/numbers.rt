@@ -2,7 +2,6 @@
 use crate::difference::Difference;
 use crate::family::{Style, small, style_of};
 use crate::line::Draft;
-use crate::repair::is_too_far;
 use armv7::Operand;
 use kind::Codes;
 use lines::is_nothing;
@@ -79,12 +78,12 @@ impl Draft {
     pub(crate) fn far_branches(&mut self, operands: [Operand; 4]) -> Result<(), AllocError> {
         let mut from = 0;
         let reached = operands.iter().take_while(|operand| !is_nothing(**operand));
-        for branch in reached.filter(|operand| is_branch(**operand)) {
+        for (distance, scale) in reached.filter_map(|operand| branch_in(*operand)) {
             let Some(at) = self.line.find(from, b"$") else {
                 break;
             };
-            if is_too_far(*branch) {
-                let text = far_text(self.heap, *branch)?;
+            if distance.checked_mul(scale).is_none() {
+                let text = wrapped(self.heap, distance, scale)?;
                 let _ = self.put(at, b"$+0x0", text.as_bytes())?;
             }
             from = at.saturating_add(1);
@@ -102,17 +101,11 @@ fn wrapped(heap: Global, distance: i32, scale: i32) -> Result<String, AllocError
     format!(in heap; "${plus}{minus}0x{size:x}")
 }
 
-fn far_text(heap: Global, operand: Operand) -> Result<String, AllocError> {
+// The distance of a branch, and how many bytes a step of it has.
+fn branch_in(operand: Operand) -> Option<(i32, i32)> {
     match operand {
-        Operand::BranchOffset(distance) => wrapped(heap, distance, 4),
-        Operand::BranchThumbOffset(distance) => wrapped(heap, distance, 2),
-        _ => Ok(String::new(heap)),
+        Operand::BranchOffset(distance) => Some((distance, 4)),
+        Operand::BranchThumbOffset(distance) => Some((distance, 2)),
+        _ => None,
     }
-}
-
-fn is_branch(operand: Operand) -> bool {
-    matches!(
-        operand,
-        Operand::BranchOffset(_) | Operand::BranchThumbOffset(_)
-    )
 }

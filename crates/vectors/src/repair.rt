@@ -6,7 +6,7 @@ use kind::{Codes, Kind, kind_by};
 use lines::is_nothing;
 
 // Whether the scale takes the distance of a branch out of 32 bits.
-pub(crate) fn is_too_far(operand: Operand) -> bool {
+fn is_too_far(operand: Operand) -> bool {
     match operand {
         Operand::BranchOffset(distance) => distance.checked_mul(4).is_none(),
         Operand::BranchThumbOffset(distance) => distance.checked_mul(2).is_none(),

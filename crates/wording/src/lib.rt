@@ -1,4 +1,4 @@
-// What the programs say in words: of a refusal, of a block transfer and of a whole record.
+// What the programs say in words: of a refusal, of a block transfer, of lines that could not be read and of a whole record.
 #![tactic(auto)]
 
 mod bytes;

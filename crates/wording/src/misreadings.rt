@@ -14,6 +14,7 @@ pub struct Misreadings {
 }
 
 impl Misreadings {
+    // No message yet.
     pub fn none(heap: Global) -> Misreadings
         ensures text { string_bytes result.text ≡ [] }
         ensures count { result.count ≡ 0 }
@@ -24,6 +25,7 @@ impl Misreadings {
         }
     }
 
+    // One message more.
     pub fn add(&mut self, message: &[u8]) -> Result<(), AllocError>
         ensures text { OnOk result (string_bytes self.new.text ≡ string_bytes self.old.text ++ (characters message.now ++ codes "\n")) }
         ensures count { OnOk result (self.new.count ≡ min (self.old.count + 1) (2 ^ 64 - 1)) }
