@@ -11,7 +11,7 @@ const NONE: Operand = Operand::Nothing;
 const R0: Operand = Operand::Reg(Reg::R0);
 
 // Each with the number and the place of its refusal; the place is 4 where it is about no operand.
-const REFUSED: [(Opcode, [Operand; 4], (u8, u8)); 15] = [
+const REFUSED: [(Opcode, [Operand; 4], (u8, u8)); 16] = [
     (Opcode::LDC(16), [R0, NONE, NONE, NONE], (3, 4)),
     (Opcode::MCRR(15, 16), [NONE, NONE, NONE, NONE], (3, 4)),
     (Opcode::MRC2(0, 0, 16), [NONE, NONE, NONE, NONE], (3, 4)),
@@ -73,6 +73,11 @@ const REFUSED: [(Opcode, [Operand; 4], (u8, u8)); 15] = [
         [Operand::BranchThumbOffset(1_073_741_824), NONE, NONE, NONE],
         (8, 0),
     ),
+    (
+        Opcode::BLX,
+        [Operand::BranchThumbOffset(-1_073_741_825), NONE, NONE, NONE],
+        (8, 0),
+    ),
 ];
 
 // Opcodes of which each operand before the first Nothing is looked at.
@@ -122,6 +127,16 @@ fn operands_are_refused_at_each_place(rt: HostRuntime) -> Result<(), Fail> {
                 assert!(rt; is_refused(&Instruction::plain(opcode, operands), (number, place)));
             }
         }
+    }
+    // Of a CPS only the second operand can be anything.
+    for (operand, number) in refused {
+        let operands = [Operand::Imm12(7), operand, NONE, NONE];
+        assert!(rt;
+            is_refused(
+                &Instruction::plain(Opcode::CPS(true), operands),
+                (number, 1)
+            )
+        );
     }
     Ok(())
 }
