@@ -4,7 +4,7 @@ ghost use Rattle.armv7.specs.declared.operand.Operand.{Operand};
 
 use armv7::{Bank, CReg, Operand, Reg, RegShift, StatusRegMask};
 
-// Kept: a method for each kind of operand, with base, offset, add and wback one by one, since this interface is the original printer's.
+// Kept: a method for each kind of operand, and base, offset, add and wback one by one: the interface is the original printer's.
 pub trait OperandVisitor {
     type Ok;
 
