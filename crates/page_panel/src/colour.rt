@@ -44,10 +44,8 @@ pub(crate) fn push_coloured(
 ) -> Result<(), AllocError> {
     let mut memory = [BLANK; LINE];
     let mut out = CellSink::new(&mut memory);
-    let answer = visit_inst(instruction, &mut out);
-    let end = out.end();
-    if answer.is_err() {
+    if visit_inst(instruction, &mut out).is_err() {
         return Ok(());
     }
-    push_cells(text, &memory[..end.min(LINE)])
+    push_cells(text, out.cells())
 }

@@ -6,7 +6,7 @@ use display::visit_inst;
 use measure::measure;
 use page::Entry;
 use runs::run;
-use sink::{Edge, Mark, MarkSink, Span};
+use sink::{Mark, MarkSink};
 use std::alloc::{AllocError, Global};
 use wording::Characters;
 
@@ -24,12 +24,6 @@ const LINE: usize = 285;
 
 const MARKS: usize = 130;
 
-const NO_MARK: Mark = Mark {
-    edge: Edge::Start,
-    span: Span::Opcode,
-    at: 0,
-};
-
 // How many bytes a call takes of a page that has room for it.
 fn bytes_of(call: &Call) -> usize {
     match call {
@@ -42,7 +36,7 @@ fn bytes_of(call: &Call) -> usize {
 
 fn line_marks(instruction: &Instruction) -> usize {
     let mut memory = [0u8; LINE];
-    let mut row = [NO_MARK; MARKS];
+    let mut row = [Mark::BLANK; MARKS];
     let mut out = MarkSink::new(&mut memory, &mut row);
     let _ = visit_inst(instruction, &mut out);
     let (_, count) = out.end();
@@ -86,7 +80,7 @@ pub(crate) fn on_page(
         })
         .collect(heap)?;
     let mut memory = vec![in heap; 0u8; bytes]?;
-    let mut marks = vec![in heap; NO_MARK; edges]?;
+    let mut marks = vec![in heap; Mark::BLANK; edges]?;
     let closed = run(
         MarkSink::new(memory.as_mut_slice(), marks.as_mut_slice()),
         entries.as_mut_slice(),

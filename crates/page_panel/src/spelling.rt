@@ -9,14 +9,17 @@ use wording::Characters;
 // The longest manual line is shorter.
 const LINE: usize = 512;
 
-// The manual line behind a word that says so; nothing of an instruction that has none.
+// A line behind a word that says that it is the manual's.
+fn push_line(text: &mut String, line: &[u8]) -> Result<(), AllocError> {
+    write!(text, "  manual: {}", Characters(line))
+}
+
+// The manual line; nothing of an instruction that has none.
 pub(crate) fn push_manual(text: &mut String, instruction: &Instruction) -> Result<(), AllocError> {
     let mut memory = [0u8; LINE];
     let mut out = TextSink::new(&mut memory);
-    let answer = visit_manual(instruction, &mut out);
-    let end = out.end();
-    if answer.is_err() {
+    if visit_manual(instruction, &mut out).is_err() {
         return Ok(());
     }
-    write!(text, "  manual: {}", Characters(&memory[..end.min(LINE)]))
+    push_line(text, out.text())
 }

@@ -5,7 +5,7 @@ use crate::repair::repaired;
 use armv7::{Fault, Instruction, Operand, Place};
 use display::visit_inst;
 use kind::{Kind, kind_by};
-use sink::{Edge, Mark, MarkSink, Span};
+use sink::{Mark, MarkSink};
 use std::alloc::{AllocError, Global};
 
 // The original panicked.
@@ -28,15 +28,9 @@ const BYTES: usize = 512;
 
 const MARKS: usize = 256;
 
-const NO_MARK: Mark = Mark {
-    edge: Edge::Start,
-    span: Span::Opcode,
-    at: 0,
-};
-
 fn print(heap: Global, instruction: &Instruction) -> Result<Result<Line, Fault>, AllocError> {
     let mut memory = [0u8; BYTES];
-    let mut row = [NO_MARK; MARKS];
+    let mut row = [Mark::BLANK; MARKS];
     let mut out = MarkSink::new(&mut memory, &mut row);
     if let Err(fault) = visit_inst(instruction, &mut out) {
         return Ok(Err(fault));
