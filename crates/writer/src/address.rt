@@ -126,7 +126,8 @@ pub(crate) fn write_postindex<T: DisplaySink, O: Offset>(
     write_flagged(out, wback, b"!")
 }
 
-// A shift behind an address stands a blank further on. Where the address is written back, this has no text.
+// An address with a shift behind it. Where it is written back, it has no text.
+// Kept: beside write_postindex, since a shift stands a blank further on than another offset.
 pub(crate) fn write_postindex_reg_shift<T: DisplaySink>(
     out: &mut T,
     base: Reg,
