@@ -39,8 +39,7 @@ fn line_marks(instruction: &Instruction) -> usize {
     let mut row = [Mark::BLANK; MARKS];
     let mut out = MarkSink::new(&mut memory, &mut row);
     let _ = visit_inst(instruction, &mut out);
-    let (_, count) = out.end();
-    count
+    out.marks().len()
 }
 
 fn marks_of(call: &Call) -> usize {

@@ -35,9 +35,8 @@ fn print(heap: Global, instruction: &Instruction) -> Result<Result<Line, Fault>,
     if let Err(fault) = visit_inst(instruction, &mut out) {
         return Ok(Err(fault));
     }
-    let (length, count) = out.end();
-    let text = Vec::from_slice(heap, &memory[..length.min(BYTES)])?;
-    let marks = Vec::from_slice(heap, &row[..count.min(MARKS)])?;
+    let text = Vec::from_slice(heap, out.text())?;
+    let marks = Vec::from_slice(heap, out.marks())?;
     Ok(Ok(Line { text, marks }))
 }
 

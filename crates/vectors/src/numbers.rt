@@ -102,7 +102,7 @@ fn wrapped(heap: Global, distance: i32, scale: i32) -> Result<String, AllocError
 }
 
 // The distance of a branch, and how many bytes a step of it has.
-fn branch_in(operand: Operand) -> Option<(i32, i32)> {
+pub(crate) fn branch_in(operand: Operand) -> Option<(i32, i32)> {
     match operand {
         Operand::BranchOffset(distance) => Some((distance, 4)),
         Operand::BranchThumbOffset(distance) => Some((distance, 2)),

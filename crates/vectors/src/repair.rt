@@ -1,17 +1,14 @@
 // The instruction with all that is out of range put where the original, which does not test it, takes it to be.
 use crate::difference::{Difference, Seen};
 use crate::family::with_small_codes;
+use crate::numbers::branch_in;
 use armv7::{Instruction, Operand};
 use kind::{Codes, Kind, kind_by};
 use lines::is_nothing;
 
 // Whether the scale takes the distance of a branch out of 32 bits.
 fn is_too_far(operand: Operand) -> bool {
-    match operand {
-        Operand::BranchOffset(distance) => distance.checked_mul(4).is_none(),
-        Operand::BranchThumbOffset(distance) => distance.checked_mul(2).is_none(),
-        _ => false,
-    }
+    branch_in(operand).is_some_and(|(distance, scale)| distance.checked_mul(scale).is_none())
 }
 
 // A branch with no distance.
