@@ -1,6 +1,6 @@
 // Refusals: each has a number, a word and the place of the operand that it is about.
-ghost use Rattle.std.specs.Prelude.{◌≡◌};
-ghost use Rattle.armv7.specs.Faults.{place_index, refusal, fault_word};
+ghost use Rattle.std.specs.Prelude.{◌≡◌, MatchOption};
+ghost use Rattle.armv7.specs.Faults.{place_index, no_operand, refusal, fault_word};
 
 // The place of an operand in its instruction.
 #[derive(Clone, Copy, PartialEq, Eq)]
@@ -39,6 +39,9 @@ pub enum Fault {
 }
 
 impl Place {
+    // All four, in order.
+    pub const ALL: [Place; 4] = [Place::First, Place::Second, Place::Third, Place::Fourth];
+
     // From 0 for the first operand to 3 for the last.
     pub fn index(&self) -> u8
         ensures value { result ≡ place_index self.now }
@@ -87,17 +90,24 @@ impl Fault {
         }
     }
 
+    // The place of the operand that the fault is about, if it is about one.
+    pub fn operand(&self) -> Option<Place>
+        ensures value { MatchOption result ((refusal self.now).place ≡ no_operand) (λ p. (refusal self.now).place ≡ place_index p) }
+    {
+        match *self {
+            Fault::Field(at)
+            | Fault::DeadOperand(at)
+            | Fault::WriteBack(at)
+            | Fault::Displacement(at) => Some(at),
+            _ => None,
+        }
+    }
+
     // The operand's place, 0 to 3, or 4 where the fault is about none.
     // Kept: 4 in place of `None` is a rule of the project.
     pub fn place(&self) -> u8
         ensures value { result ≡ (refusal self.now).place }
     {
-        match *self {
-            Fault::Field(at) => at.index(),
-            Fault::DeadOperand(at) => at.index(),
-            Fault::WriteBack(at) => at.index(),
-            Fault::Displacement(at) => at.index(),
-            _ => 4,
-        }
+        self.operand().map_or(4, |at| at.index())
     }
 }

@@ -7,7 +7,8 @@ use crate::reg::Reg;
 
 // A shift word: the register in bits 3 to 0, the kind in bits 6 to 5, and in bits 11 to 7 the amount or, with bit 4 set, in
 // bits 11 to 8 the register to shift by. The rest of the number is never read.
-// Kept: no invariant, by a rule of the project: operands lie in an array, where a type with an invariant can't.
+// Kept: a number without an invariant, by a rule of the project (docs/DECISIONS.md): what is no part of a shift word is never read,
+// so each value is one.
 #[derive(Clone, Copy)]
 pub struct RegShift {
     data: u16,
