@@ -1,6 +1,5 @@
 // Lent memory of which a part is in use.
-// Kept: the memory and its count are two parameters. In a struct of their own inside a sink, a sink that is passed by value, as
-// `end` takes it, was outside of what can be proved.
+// Kept: tried as a struct inside the sink; `end`, which takes the sink by value, was then not covered by a proof.
 ghost use Rattle.std.specs.Prelude.{◌≡◌, ◌+◌, ◌-◌, ◌≤◌, min, cond, [], ◌∷◌, ◌++◌, length, take, nat_lt};
 ghost use Rattle.sink.specs.Lent.{Filled};
 ghost use Rattle.sink.specs.Outcome.{outcome, full_below};
@@ -11,12 +10,13 @@ use armv7::Fault;
 fn place<T: Copy>(memory: &mut [T], used: &mut usize, piece: &[T])
     requires { used.old + length piece.now ≤ length memory.old }
     ensures count { used.new ≡ used.old + length piece.now }
-    ensures size { length memory.new ≡ length memory.old }
     ensures text { take used.new memory.new ≡ take used.old memory.old ++ piece.now }
     ensures rest { Filled memory.old used.old memory.new used.new }
 {
     let start = *used;
     let end = start + piece.len();
+    // Kept: two and three elements, as a register's name has, one by one: a list of all registers takes 26 instructions a register
+    // in this form, and 56 by copy_from_slice alone.
     match *piece {
         [a, b] => {
             memory[start] = a;
@@ -37,7 +37,6 @@ fn place<T: Copy>(memory: &mut [T], used: &mut usize, piece: &[T])
 pub(crate) fn append<T: Copy>(memory: &mut [T], used: &mut usize, piece: &[T]) -> Result<(), Fault>
     requires { used.old ≤ length memory.old }
     ensures count { used.new ≡ min (used.old + length piece.now) (length memory.old) }
-    ensures size { length memory.new ≡ length memory.old }
     ensures text { take used.new memory.new ≡ take used.old memory.old ++ take (length memory.old - used.old) piece.now }
     ensures rest { Filled memory.old used.old memory.new used.new }
     ensures answer { outcome result ≡ full_below (length memory.old - used.old) (length piece.now) }

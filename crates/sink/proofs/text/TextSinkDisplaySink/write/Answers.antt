@@ -12,7 +12,7 @@ unfolding holding
 returns-clause-after c =
     let s = c.args.self.now in
     let told = c.append.ensures in
-    ap₂ holding (write_text s.buf.now _ c.args.piece.now s.len _ (omega arith) s.within told.size told.text) (write_limit s.buf.now _ c.args.piece.now s.len c.append.new.used (omega arith) s.within told.size)
+    ap₂ holding (write_text s.buf.now _ c.args.piece.now s.len _ (omega arith) s.within told.rest.size told.text) (write_limit s.buf.now _ c.args.piece.now s.len c.append.new.used (omega arith) s.within told.rest.size)
 
 pub returns-clause-answer : goal.returns-clause-answer
 returns-clause-answer c =
