@@ -27,7 +27,6 @@ pub struct CellSink<'a> {
 fn paint(cells: &mut [Cell], used: &mut usize, ink: Ink, piece: &[u8]) -> Result<(), Fault>
     requires { used.old ≤ length cells.old }
     ensures within { used.new ≤ length cells.new }
-    ensures size { length cells.new ≡ length cells.old }
     ensures text { take used.new cells.new ≡ take used.old cells.old ++ painted ink (take (length cells.old - used.old) piece.now) }
     ensures rest { Filled cells.old used.old cells.new used.new }
     ensures answer { outcome result ≡ full_below (length cells.old - used.old) (length piece.now) }
@@ -72,7 +71,7 @@ impl<'a> CellSink<'a> {
     }
 
     // The ink after an edge of a span: a start sets its kind's, and an end sets plain if the ink is its kind's.
-    // Kept: the match on the ink and the edge together is a form that the project asks for.
+    // Kept: the match on the ink and the edge together, by a rule of the project (docs/DECISIONS.md).
     fn turn(&mut self, edge: Edge, span: Span)
         ensures ink { self.new.ink ≡ next_ink self.old.ink edge span }
         ensures cells { (self.new.cells ≡ self.old.cells) × (self.new.len ≡ self.old.len) }
@@ -116,6 +115,7 @@ impl DisplaySink for CellSink<'_> {
         paint(self.cells, &mut self.len, self.ink, piece)
     }
 
+    // Kept: each call names again what its trait asks, with inks and ink, which its users read by name.
     fn span_start_opcode(&mut self)
         ensures after { cell_meaning self.new ≡ marked Start Opcode (cell_meaning self.old) }
         ensures rest { CellKept self.old self.new }

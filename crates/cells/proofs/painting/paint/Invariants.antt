@@ -5,6 +5,6 @@ use Rattle.cells.proofs.painting.paint.Given as goal
 
 abbrev pub invariant-loop-byte : goal.invariant-loop-byte
 invariant-loop-byte l =
-    (l.used ≡ l.initial.used + l.byte-index) × (l.used ≤ length l.cells) × (length l.cells ≡ length l.initial.cells)
+    (l.used ≡ l.initial.used + l.byte-index) × (l.used ≤ length l.cells)
     × (take l.used l.cells ≡ take l.initial.used l.initial.cells ++ painted l.ink (take l.byte-index l.piece))
     × Filled l.initial.cells l.initial.used l.cells l.used

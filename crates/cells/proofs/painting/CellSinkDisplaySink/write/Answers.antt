@@ -12,11 +12,11 @@ returns c =
     let s = c.args.self.now in
     let p = c.args.piece.now in
     let row = text_items (take (room (cell_meaning s)) p) in
-    let inks = paint_inks s _ _ p (omega arith) told.size told.text in
+    let inks = paint_inks s _ _ p (omega arith) told.rest.size told.text in
     record {
-      after = paint_meaning s _ _ p (omega arith) told.size told.text;
-      answer = told.answer ∙ ap (λ n. full_below n (length p)) (paint_room s _ _ p (omega arith) told.size told.text);
-      rest = record { memory = refl; filled = told.rest; row = row; inks = inks ∙ paint_row s _ _ p (omega arith) told.size told.text; ink = paint_ink s _ _ p (omega arith) told.size told.text };
+      after = paint_meaning s _ _ p (omega arith) told.rest.size told.text;
+      answer = told.answer ∙ ap (λ n. full_below n (length p)) (paint_room s _ _ p (omega arith) told.rest.size told.text);
+      rest = record { memory = refl; filled = told.rest; row = row; inks = inks ∙ paint_row s _ _ p (omega arith) told.rest.size told.text; ink = paint_ink s _ _ p (omega arith) told.rest.size told.text };
       inks = inks;
       ink = refl;
     }
