@@ -16,9 +16,8 @@ impl fmt::Display for Refusal {
     fn fmt<W: fmt::Write>(&self, f: &mut fmt::Formatter<W>) -> fmt::Result {
         let Refusal(fault) = *self;
         write!(f, "{}, {}", fault.number(), Characters(fault.word()))?;
-        let place = fault.place();
-        if place < 4 {
-            write!(f, ", operand {place}")?;
+        if let Some(at) = fault.operand() {
+            write!(f, ", operand {}", at.index())?;
         }
         Ok(())
     }

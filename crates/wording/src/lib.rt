@@ -39,7 +39,9 @@ mod tests {
     #[test]
     fn refusals(rt: HostRuntime) -> Result<(), Fail> {
         let cases = [
+            (Fault::SinkFull, "9, sink full"),
             (Fault::PageFull, "10, page full"),
+            (Fault::NoManualForm, "11, no manual form"),
             (
                 Fault::Displacement(Place::First),
                 "8, displacement, operand 0",
