@@ -11,8 +11,6 @@ use crate::form::Reached;
 use armv7::{Fault, Operand, Place};
 use visitor::admit_distance;
 
-const PLACES: [Place; 4] = [Place::First, Place::Second, Place::Third, Place::Fourth];
-
 // Is the operand missing?
 pub fn is_nothing(operand: Operand) -> bool
     ensures value { result ≡ no_operand_there (shape operand) }
@@ -44,7 +42,7 @@ pub(crate) fn admit_reached(operands: &[Operand; 4]) -> Result<Reached<'_>, Faul
                 operands: &operands[0..index],
             });
         }
-        admit_operand(*operand, PLACES[index])?;
+        admit_operand(*operand, Place::ALL[index])?;
     }
     Ok(Reached { operands })
 }
