@@ -1,7 +1,7 @@
 // The printer for programs in C: functions on numbers and on lent bytes.
 #![tactic(auto)]
 
-ghost use Rattle.std.specs.Prelude.{◌≡◌, length, Some};
+ghost use Rattle.std.specs.Prelude.{◌≡◌, length, Some, None, IfOk, IfErr};
 ghost use Rattle.sink.specs.Outcome.{outcome};
 ghost use Rattle.ffi.specs.Lines.{ColumnOf, asked, numbered, over, TellsRefusal, TellsText, HoldsText};
 ghost use Rattle.ffi.specs.Marks.{code_of_edge, code_of_span, mark_code, numbers_in, numbers_shown};
@@ -42,16 +42,33 @@ fn answered(answer: Result<(), Fault>, length: usize, marks: usize) -> Answer
     ensures refusal { TellsRefusal (numbered (outcome answer)) result }
     ensures others { (result.marks ≡ marks) × (result.column ≡ 0) }
 {
-    let (number, place) = match answer {
-        Ok(()) => (0, 4),
-        Err(fault) => (fault.number(), fault.place()),
-    };
-    Answer {
+    let printed = Answer {
         length,
         marks,
-        column: 0,
-        number,
-        place,
+        ..NOTHING
+    };
+    match answer {
+        Ok(()) => printed,
+        Err(fault) => Answer {
+            number: fault.number(),
+            place: fault.place(),
+            ..printed
+        },
+    }
+}
+
+// The instruction that a line asks to print, or the answer to a line that asks for none.
+fn instruction_on(line: &[u8]) -> Result<Instruction, Answer>
+    ensures instruction { IfOk result (λ i. (asked line.now ≡ Some i) × ColumnOf line.now 0) }
+    ensures answer { IfErr result (λ a. (asked line.now ≡ None) × ColumnOf line.now a.column × TellsText 0 None a × (a.marks ≡ 0)) }
+{
+    match read_line(line) {
+        Ok(Some(Call::Print(instruction))) => Ok(instruction),
+        Ok(_) => Err(NOTHING),
+        Err(misread) => Err(Answer {
+            column: misread.column,
+            ..NOTHING
+        }),
     }
 }
 
@@ -81,12 +98,10 @@ pub extern "C" fn dithwellor_print(line: &[u8], out: &mut [u8], answer: &mut Ans
     ensures no_marks { answer.new.marks ≡ 0 }
     ensures memory { HoldsText (asked line.now) out.old out.new }
 {
-    *answer = NOTHING;
-    match read_line(line) {
-        Ok(Some(Call::Print(instruction))) => *answer = print_text(&instruction, out),
-        Ok(_) => {}
-        Err(misread) => answer.column = misread.column,
-    }
+    *answer = match instruction_on(line) {
+        Ok(instruction) => print_text(&instruction, out),
+        Err(unprinted) => unprinted,
+    };
 }
 
 // A line has at most 130 marks.
@@ -162,10 +177,8 @@ pub extern "C" fn dithwellor_print_marked(
     ensures memory { HoldsText (asked line.now) out.old out.new }
     ensures row { row.new ≡ over (numbers_shown (length row.old) (length out.old) (asked line.now)) row.old }
 {
-    *answer = NOTHING;
-    match read_line(line) {
-        Ok(Some(Call::Print(instruction))) => *answer = print_marks(&instruction, out, row),
-        Ok(_) => {}
-        Err(misread) => answer.column = misread.column,
-    }
+    *answer = match instruction_on(line) {
+        Ok(instruction) => print_marks(&instruction, out, row),
+        Err(unprinted) => unprinted,
+    };
 }
