@@ -1,12 +1,10 @@
 // The rows behind a word, for each way to print an instruction.
 ghost use Rattle.std.specs.Prelude.{[], ◌∷◌, ◌++◌, map, codes};
 ghost use Rattle.kind.specs.Kinds.{optional};
-ghost use Rattle.sink.specs.declared.sink.Edge.TheVariants.{Start, End};
-ghost use Rattle.sink.specs.declared.sink.Span.TheVariants.{Register};
-ghost use Rattle.sink.specs.Items.{edge, text_items};
+ghost use Rattle.sink.specs.Items.{text_items};
 ghost use Rattle.sink.specs.Outcome.{outcome};
 ghost use Rattle.sink.specs.Printed.{Printed};
-ghost use Rattle.visitor.specs.Texts.{reg_items, list_items, followed, decimal};
+ghost use Rattle.visitor.specs.Texts.{list_items, followed, decimal};
 ghost use Rattle.lines.specs.Forms.{block_rows, rows_of};
 ghost use Rattle.lines.specs.Lines.{behind_word, one_row, code_row};
 
@@ -16,7 +14,7 @@ use armv7::{Fault, Reg};
 use kind::Codes;
 use lines::{Block, Form, Reached};
 use sink::DisplaySink;
-use text::{write_decimal, write_flagged, write_list, write_reg, write_text};
+use text::{write_decimal, write_flagged, write_list, write_text, write_twice_spanned};
 use writer::write_reg_wback;
 
 // The list of a pop or a push.
@@ -27,22 +25,12 @@ pub fn write_stack_list<T: DisplaySink>(registers: u16, out: &mut T) -> Result<(
     write_list(out, registers)
 }
 
-// A register in two spans.
-fn write_twice_spanned<T: DisplaySink>(reg: Reg, out: &mut T) -> Result<(), Fault>
-    ensures { Printed T.meaning T.kept (edge Start Register ∷ (reg_items reg ++ edge End Register ∷ [])) out.old (outcome result) out.new }
-{
-    out.span_start_register();
-    write_reg(out, reg)?;
-    out.span_end_register();
-    Ok(())
-}
-
 // The one register of a pop or a push.
 pub(crate) fn write_stack_one<T: DisplaySink>(reg: Reg, out: &mut T) -> Result<(), Fault>
     ensures { Printed T.meaning T.kept (behind_word (one_row reg ∷ [])) out.old (outcome result) out.new }
 {
     write_text(out, b" {")?;
-    write_twice_spanned(reg, out)?;
+    write_twice_spanned(out, reg)?;
     write_text(out, b"}")
 }
 

@@ -1,9 +1,11 @@
 // Writers of pieces and of register names.
-ghost use Rattle.std.specs.Prelude.{◌++◌, if◌then◌else◌, codes};
+ghost use Rattle.std.specs.Prelude.{List, ◌++◌, if◌then◌else◌, codes};
 ghost use Rattle.armv7.specs.Banks.{bank_name};
-ghost use Rattle.sink.specs.Items.{text_items};
+ghost use Rattle.sink.specs.declared.sink.Span.TheVariants.{Register};
+ghost use Rattle.sink.specs.Items.{Item, text_items};
 ghost use Rattle.sink.specs.Outcome.{outcome};
 ghost use Rattle.sink.specs.Printed.{Printed};
+ghost use Rattle.text.specs.Spans.{within, Writes};
 ghost use Rattle.visitor.specs.Texts.{flagged, spanned, reg_items};
 
 use armv7::{Bank, Fault, Reg};
@@ -38,20 +40,38 @@ pub fn write_either<T: DisplaySink>(
     }
 }
 
+// What a closure writes, in a register span.
+fn in_register_span<T: DisplaySink, F: FnOnce(&mut T) -> Result<(), Fault>>(
+    out: &mut T,
+    write: F,
+) -> Result<(), Fault>
+    requires { F.IsAlwaysCallable write }
+    ensures { (is : List Item) → Writes T.meaning T.kept (F.post write) is → Printed T.meaning T.kept (within Register is) out.old (outcome result) out.new }
+{
+    out.span_start_register();
+    write(out)?;
+    out.span_end_register();
+    Ok(())
+}
+
 // A name in a register span.
 pub fn write_spanned<T: DisplaySink>(out: &mut T, name: &[u8]) -> Result<(), Fault>
     ensures printed { Printed T.meaning T.kept (spanned name.now) out.old (outcome result) out.new }
 {
-    out.span_start_register();
-    write_text(out, name)?;
-    out.span_end_register();
-    Ok(())
+    in_register_span(out, |out| write_text(out, name))
 }
 
 pub fn write_reg<T: DisplaySink>(out: &mut T, reg: Reg) -> Result<(), Fault>
     ensures printed { Printed T.meaning T.kept (reg_items reg) out.old (outcome result) out.new }
 {
     write_spanned(out, reg.name())
+}
+
+// A register in two spans.
+pub fn write_twice_spanned<T: DisplaySink>(out: &mut T, reg: Reg) -> Result<(), Fault>
+    ensures printed { Printed T.meaning T.kept (within Register (reg_items reg)) out.old (outcome result) out.new }
+{
+    in_register_span(out, |out| write_reg(out, reg))
 }
 
 // A text, and behind it the bank's letters.
@@ -70,23 +90,16 @@ fn write_name_in_bank<T: DisplaySink>(out: &mut T, word: &[u8], bank: Bank) -> R
 }
 
 // A banked register.
-// Kept: its edges are those of write_spanned, since the word is of any length, and no fixed memory holds it and the letters as one.
 pub fn write_banked_reg<T: DisplaySink>(out: &mut T, word: &[u8], bank: Bank) -> Result<(), Fault>
     ensures printed { Printed T.meaning T.kept (spanned (word.now ++ (codes "_" ++ bank_name bank))) out.old (outcome result) out.new }
 {
-    out.span_start_register();
-    write_name_in_bank(out, word, bank)?;
-    out.span_end_register();
-    Ok(())
+    in_register_span(out, |out| write_name_in_bank(out, word, bank))
 }
 
 // The status register of a bank.
-// Kept: no banked register of the word `spsr`, since `spsr_` is written whole, by a rule of the project.
+// Kept: no banked register of the word `spsr`, since `spsr_` is written whole, by a rule of the project (docs/DECISIONS.md).
 pub fn write_banked_spsr<T: DisplaySink>(out: &mut T, bank: Bank) -> Result<(), Fault>
     ensures printed { Printed T.meaning T.kept (spanned (codes "spsr_" ++ bank_name bank)) out.old (outcome result) out.new }
 {
-    out.span_start_register();
-    write_in_bank(out, b"spsr_", bank)?;
-    out.span_end_register();
-    Ok(())
+    in_register_span(out, |out| write_in_bank(out, b"spsr_", bank))
 }

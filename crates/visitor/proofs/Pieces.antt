@@ -1,16 +1,13 @@
 -- Texts that are handed to a sink in pieces, or known under another name. Assumes nothing.
-use Rattle.std.proofs.Common.{◌≡◌, ℕ, List, [], ◌∷◌, ◌++◌, IsErrAnd, Some, None, Option, Result, sym, subst}
+use Rattle.std.proofs.Common.{◌≡◌, ℕ, List, ◌++◌, IsErrAnd, Some, None, Option, Result, sym, subst}
 use mathlib.Core.List.{map-append}
 use Rattle.armv7.specs.declared.fault.Fault.{Fault}
 use Rattle.armv7.specs.Faults.{Refusal, refusal}
-use Rattle.sink.specs.declared.sink.Edge.TheVariants.{Start, End}
-use Rattle.sink.specs.declared.sink.Span.TheVariants.{Register}
-use Rattle.sink.specs.Items.{Item, byte, edge, text_items}
-use Rattle.sink.specs.Meaning.{Meaning, Laws, marked}
+use Rattle.sink.specs.Items.{Item, byte, text_items}
+use Rattle.sink.specs.Meaning.{Meaning, Laws}
 use Rattle.sink.specs.Outcome.{outcome}
 use Rattle.sink.specs.Printed.{Printed}
-use Rattle.sink.proofs.Chain.{both, stop, edged}
-use Rattle.visitor.specs.Texts.{spanned}
+use Rattle.sink.proofs.Chain.{both, stop}
 
 module _ {S : Type 0} {meaning : S → Meaning} {kept : S → S → Type 0} where
   pub renamed : {a b : List Item} {s t : S} {r : Option Refusal} → a ≡ b → Printed meaning kept a s r t → Printed meaning kept b s r t
@@ -24,12 +21,3 @@ module _ {S : Type 0} {meaning : S → Meaning} {kept : S → S → Type 0} wher
     -- a text whose refusal was handed on, before the text behind it
     pub text_stop : (p q : List ℕ) {A : Type 0} {s t : S} (r : Result A Fault) (d : Fault) → Printed meaning kept (text_items p) s (Some (refusal d)) t → IsErrAnd r (λ y. y ≡ d) → Printed meaning kept (text_items (p ++ q)) s (outcome r) t
     text_stop p q r d x e = renamed (sym (map-append byte p q)) (stop laws (text_items p) (text_items q) r d x e)
-
-    module _ (p : List ℕ) {s t u : S} where
-      -- a name between the edges of a register span
-      pub in_span : {v : S} → meaning t ≡ marked Start Register (meaning s) → kept s t → Printed meaning kept (text_items p) t None u → meaning v ≡ marked End Register (meaning u) → kept u v → Printed meaning kept (spanned p) s None v
-      in_span a k x b l = both laws (edge Start Register ∷ []) _ (edged laws Start Register a k) (both laws (text_items p) _ x (edged laws End Register b l))
-
-      -- a name whose refusal was handed on, behind the edge
-      pub in_span_stop : {A : Type 0} (r : Result A Fault) (d : Fault) → meaning t ≡ marked Start Register (meaning s) → kept s t → Printed meaning kept (text_items p) t (Some (refusal d)) u → IsErrAnd r (λ y. y ≡ d) → Printed meaning kept (spanned p) s (outcome r) u
-      in_span_stop r d a k x e = both laws (edge Start Register ∷ []) _ (edged laws Start Register a k) (stop laws (text_items p) (edge End Register ∷ []) r d x e)

@@ -1,5 +1,5 @@
 -- One of two texts by a flag, and a shift by an amount. Assumes nothing.
-use Rattle.std.proofs.Common.{◌≡◌, ℕ, Bool, true, false, cond, List, [], ◌++◌, codes, sym, refl, ap, ne_eqb}
+use Rattle.std.proofs.Common.{◌≡◌, ℕ, ◌⊎◌, Bool, true, false, cond, List, [], ◌++◌, codes, sym, refl, ap, ◌∙◌, ap₂, ⊎_elim, ne_eqb}
 use Rattle.armv7.specs.declared.shift.ShiftStyle.{ShiftStyle}
 use Rattle.armv7.specs.declared.shift.ShiftStyle.TheVariants.{LSL, LSR, ASR, ROR}
 use Rattle.armv7.specs.Shifts.{style_name}
@@ -28,3 +28,10 @@ counted LSL n h = sym (ap (λ t. cond t [] (codes ", lsl " ++ decimal n)) (ne_eq
 counted LSR n h = sym (ap (λ t. codes ", lsr " ++ decimal (cond t 32 n)) (ne_eqb n 0 h))
 counted ASR n h = sym (ap (λ t. codes ", asr " ++ decimal (cond t 32 n)) (ne_eqb n 0 h))
 counted ROR n h = sym (ap (λ t. cond t (codes ", rrx") (codes ", ror " ++ decimal n)) (ne_eqb n 0 h))
+
+-- an amount of 0, where it stands for 32
+full_at : {s t : ShiftStyle} {n : ℕ} → s ≡ t → n ≡ 0 → word_of t ++ decimal 32 ≡ amount_text t 0 → word_of s ++ decimal 32 ≡ amount_text s n
+full_at e z f = ap (λ x. word_of x ++ decimal 32) e ∙ f ∙ ap₂ amount_text (sym e) (sym z)
+
+pub full : (s : ShiftStyle) (n : ℕ) → (s ≡ LSR) ⊎ (s ≡ ASR) → n ≡ 0 → word_of s ++ decimal 32 ≡ amount_text s n
+full s n k z = ⊎_elim (λ e. full_at e z refl) (λ e. full_at e z refl) k

@@ -121,6 +121,7 @@ impl<T: DisplaySink> OperandVisitor for DisplayingOperandVisitor<'_, T> {
         write_prefixed(self.f, imm)
     }
 
+    // Kept: two lines each for the two kinds of branch: one function over the scale would take those two lines and save none.
     fn visit_branch_offset(&mut self, offset: i32) -> Result<(), Fault> {
         admit_distance(offset, 4, Place::First)?;
         write_branch(self.f, 4, offset)

@@ -37,8 +37,7 @@ fn write_amount<T: DisplaySink>(out: &mut T, stype: ShiftStyle, amount: u8) -> R
     }
     match stype {
         ShiftStyle::LSL => Ok(()),
-        ShiftStyle::LSR => write_counted(out, b", lsr ", 32),
-        ShiftStyle::ASR => write_counted(out, b", asr ", 32),
+        ShiftStyle::LSR | ShiftStyle::ASR => write_counted(out, style_word(stype), 32),
         ShiftStyle::ROR => write_text(out, b", rrx"),
     }
 }

@@ -1,15 +1,7 @@
-use Rattle.std.proofs.Common.{◌++◌, codes}
+use Rattle.std.proofs.Common.{◌++◌, codes, rules}
 use Rattle.armv7.specs.Banks.{bank_name}
-use Rattle.visitor.proofs.Pieces.{in_span, in_span_stop}
+use Rattle.sink.specs.Items.{text_items}
 use Rattle.text.proofs.piece.write_banked_spsr.Goals as goal
 
-pub returns-in_err-write_in_bank : goal.returns-in_err-write_in_bank
-returns-in_err-write_in_bank g c =
-    let start = c.span_start_register.ensures in
-    record { printed = in_span_stop g.T.DisplaySink.laws (codes "spsr_" ++ bank_name c.args.bank) c.from_residual.result c.in_err-write_in_bank.field-0.0 start.after start.rest c.in_err-write_in_bank.ensures c.from_residual.ensures.1 }
-
 pub returns : goal.returns
-returns g c =
-    let start = c.span_start_register.ensures in
-    let end = c.span_end_register.ensures in
-    record { printed = in_span g.T.DisplaySink.laws (codes "spsr_" ++ bank_name c.args.bank) start.after start.rest c.in_ok-write_in_bank.ensures end.after end.rest }
+returns g c = record { printed = c.in_register_span.ensures (text_items (codes "spsr_" ++ bank_name c.args.bank)) (λ s r t e. search rules) }

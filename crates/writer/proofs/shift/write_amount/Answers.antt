@@ -3,7 +3,7 @@ use Rattle.sink.specs.Items.{text_items}
 use Rattle.sink.proofs.Chain.{nothing}
 use Rattle.visitor.specs.Texts.{amount_text, decimal}
 use Rattle.visitor.proofs.Pieces.{renamed}
-use Rattle.writer.proofs.Choices.{counted}
+use Rattle.writer.proofs.Choices.{counted, full}
 use Rattle.writer.proofs.shift.write_amount.Goals as goal
 
 pub returns-then-amount-gt0 : goal.returns-then-amount-gt0
@@ -17,13 +17,7 @@ returns-in-LSL g c =
 
 pub returns-in-LSR : goal.returns-in-LSR
 returns-in-LSR g c =
-    let none : c.args.amount ≡ 0 = omega arith in
-    renamed (ap₂ (λ s n. text_items (amount_text s n)) (sym c.in-LSR.is) (sym none)) c.write_counted-in-LSR.ensures
-
-pub returns-in-ASR : goal.returns-in-ASR
-returns-in-ASR g c =
-    let none : c.args.amount ≡ 0 = omega arith in
-    renamed (ap₂ (λ s n. text_items (amount_text s n)) (sym c.in-ASR.is) (sym none)) c.write_counted-in-ASR.ensures
+    renamed (ap (λ w. text_items (w ++ decimal 32)) c.style_word-in-LSR.ensures ∙ ap text_items (full c.args.stype c.args.amount c.in-LSR.is (omega arith))) c.write_counted-in-LSR.ensures
 
 pub returns-in-ROR : goal.returns-in-ROR
 returns-in-ROR g c =
