@@ -76,13 +76,13 @@ fn admit_it(instruction: &Instruction) -> Result<Form<'_>, Fault>
     let Operand::Imm32(mask) = second else {
         return Err(Fault::Shape);
     };
-    if condition > 14 {
-        return Err(Fault::Field(Place::First));
-    }
+    let condition = ConditionCode::ALL
+        .get(condition as usize)
+        .copied()
+        .ok_or(Fault::Field(Place::First))?;
     if mask > 15 {
         return Err(Fault::Field(Place::Second));
     }
-    let condition = ConditionCode::ALL[condition as usize];
     Ok(Form::It(ItBlock { condition, mask }))
 }
 
