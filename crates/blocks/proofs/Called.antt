@@ -2,9 +2,9 @@
 use Rattle.std.proofs.Common.{◌≡◌, Bool, true, false, not, ◌&&◌, eqb, Some, None, Option, sym, refl, ap, ◌∙◌, subst}
 use Rattle.armv7.specs.declared.instruction.Instruction.{Instruction}
 use Rattle.armv7.specs.declared.reg.Reg.{Reg}
+use Rattle.kind.specs.Kinds.{one_form}
 use Rattle.opcode.specs.Forms.{Form, form}
 use Rattle.lines.specs.Codes.{one_on_stack}
-use Rattle.lines.specs.Forms.{one_form}
 use Rattle.lines.specs.Lines.{shape_at, at_sp, two_only}
 use Rattle.blocks.specs.declared.fields.Sheet.{Sheet}
 use Rattle.blocks.specs.Sheets.{one_sheet, sheet_by, sheet_of, FitsOnly}

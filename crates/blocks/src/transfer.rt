@@ -1,9 +1,9 @@
 // The sheet of an instruction.
 ghost use Rattle.std.specs.Prelude.{◌≡◌, ◌^◌};
 ghost use Rattle.armv7.specs.Registers.{reg_number};
+ghost use Rattle.kind.specs.Kinds.{one_form, list_form};
 ghost use Rattle.lines.specs.Lines.{shape_at};
-ghost use Rattle.blocks.specs.Sheets.{stack_sheet, block_sheet, list_sheet, sheet_by, sheet_of, FitsOnly};
-ghost use Rattle.lines.specs.Forms.{one_form};
+ghost use Rattle.blocks.specs.Sheets.{stack_sheet, block_sheet, sheet_by, sheet_of, FitsOnly};
 
 use crate::fields::Sheet;
 use armv7::{Instruction, Operand, Reg};
@@ -70,7 +70,7 @@ fn one(load: bool, instruction: &Instruction) -> Option<Sheet>
 
 // A pop or a push by its own opcode: only a list.
 fn list(load: bool, instruction: &Instruction) -> Option<Sheet>
-    ensures { result ≡ list_sheet load (shape_at 0 instruction.now) (shape_at 1 instruction.now) instruction.now }
+    ensures { result ≡ sheet_by (list_form load) instruction.now }
 {
     let [first, second, _, _] = instruction.operands;
     match first {
@@ -86,10 +86,8 @@ pub fn sheet(instruction: &Instruction) -> Option<Sheet>
 {
     match kind_by(instruction.opcode) {
         Kind::Block(transfer) => block(transfer, instruction),
-        Kind::LoadOne => one(true, instruction),
-        Kind::StoreOne => one(false, instruction),
-        Kind::Pop => list(true, instruction),
-        Kind::Push => list(false, instruction),
+        Kind::One { load } => one(load, instruction),
+        Kind::List { load } => list(load, instruction),
         Kind::It | Kind::Cps | Kind::Setend | Kind::Coprocessor(_) | Kind::Plain => None,
     }
 }

@@ -34,13 +34,12 @@ pub struct Codes {
     pub third: Option<u8>,
 }
 
+// `One` is a load or a store of one register, and `List` a pop or a push under its own opcode.
 #[derive(Clone, Copy)]
 pub enum Kind {
     Block(Transfer),
-    LoadOne,
-    StoreOne,
-    Pop,
-    Push,
+    One { load: bool },
+    List { load: bool },
     It,
     Cps,
     Setend,
@@ -63,8 +62,8 @@ pub fn kind_by(opcode: Opcode) -> Kind
     ensures form { form_of result ≡ form opcode }
 {
     match opcode {
-        Opcode::POP => Kind::Pop,
-        Opcode::PUSH => Kind::Push,
+        Opcode::POP => Kind::List { load: true },
+        Opcode::PUSH => Kind::List { load: false },
         Opcode::LDM(add, pre, wback, user) => Kind::Block(Transfer {
             load: true,
             add,
@@ -79,8 +78,8 @@ pub fn kind_by(opcode: Opcode) -> Kind
             wback,
             user,
         }),
-        Opcode::LDR => Kind::LoadOne,
-        Opcode::STR => Kind::StoreOne,
+        Opcode::LDR => Kind::One { load: true },
+        Opcode::STR => Kind::One { load: false },
         Opcode::IT => Kind::It,
         Opcode::CPS(_) => Kind::Cps,
         Opcode::SETEND => Kind::Setend,

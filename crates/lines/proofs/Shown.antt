@@ -3,6 +3,7 @@ use Rattle.std.proofs.Common.{◌≡◌, ℕ, ◌≤◌, Bool, true, false, cond
 use Rattle.armv7.specs.Conditions.{condition_name, condition_number}
 use Rattle.armv7.specs.declared.instruction.Instruction.{Instruction}
 use Rattle.armv7.specs.declared.reg.Reg.{Reg}
+use Rattle.kind.specs.Kinds.{one_form}
 use Rattle.opcode.specs.Forms.{it, cps}
 use Rattle.opcode.specs.Names.{name_of}
 use Rattle.sink.specs.Items.{Item, text_items}
@@ -11,7 +12,7 @@ use Rattle.visitor.specs.Texts.{prefixed}
 use Rattle.lines.specs.declared.form.Form.TheVariants.{One, It, Cps}
 use Rattle.lines.specs.Admission.{reached_refused}
 use Rattle.lines.specs.Codes.{popped, pushed, one_on_stack, mode_of, mode_rows}
-use Rattle.lines.specs.Forms.{one_form, one_if, AdmittedAs}
+use Rattle.lines.specs.Forms.{one_if, AdmittedAs}
 use Rattle.lines.specs.Lines.{at_sp, Parts, operand, shape_at, four, suffix, own_parts, one_parts, flag_row, it_letters, condition_at}
 
 popped_parts : (a b c d : Shape) (r : Reg) (f : Reg → Parts) (own : Parts) → Some r ≡ popped a b c d → f r ≡ if_one a (λ t. if_post b (λ x n add w. cond (at_sp x && (eqb n 4 && (add && (not w && (no_more c && no_more d))))) (f t) own) own) own

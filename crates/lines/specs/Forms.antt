@@ -98,11 +98,6 @@ moved_by plain i = None
 abbrev pub moved : Instruction → Option Moved
 moved i = moved_by (form i.opcode) i
 
--- a load or a store of one register
-abbrev pub one_form : Bool → OpcodeForm
-one_form true = load_one
-one_form false = store_one
-
 -- an instruction of this form is refused as it should be, or told what it shows
 pub record AdmittedAs (f : OpcodeForm) (i : Instruction) (answer : Result Form Fault) : Type 0 where
   pub refusal : outcome answer ≡ refused_by f i

@@ -2,11 +2,11 @@
 ghost use Rattle.std.specs.Prelude.{◌≡◌, [], ◌∷◌, IfOk};
 ghost use Rattle.opcode.specs.Forms.{block, it, cps, setend, plain, coprocessor};
 ghost use Rattle.sink.specs.Outcome.{outcome};
-ghost use Rattle.kind.specs.Kinds.{optional, suffixes_of};
+ghost use Rattle.kind.specs.Kinds.{optional, suffixes_of, one_form};
 ghost use Rattle.visitor.specs.Shapes.{shape};
 ghost use Rattle.lines.specs.Admission.{reached_refused, refused};
 ghost use Rattle.lines.specs.Codes.{mode_of};
-ghost use Rattle.lines.specs.Forms.{parts_of, moved_in, moved, one_form, AdmittedAs};
+ghost use Rattle.lines.specs.Forms.{parts_of, moved_in, moved, AdmittedAs};
 ghost use Rattle.lines.specs.Lines.{parts};
 
 use crate::alias::{stack_register, stacks};
@@ -76,13 +76,13 @@ fn admit_it(instruction: &Instruction) -> Result<Form<'_>, Fault>
     let Operand::Imm32(mask) = second else {
         return Err(Fault::Shape);
     };
-    if condition > 14 {
-        return Err(Fault::Field(Place::First));
-    }
+    let condition = ConditionCode::ALL
+        .get(condition as usize)
+        .copied()
+        .ok_or(Fault::Field(Place::First))?;
     if mask > 15 {
         return Err(Fault::Field(Place::Second));
     }
-    let condition = ConditionCode::ALL[condition as usize];
     Ok(Form::It(ItBlock { condition, mask }))
 }
 
@@ -134,12 +134,11 @@ pub fn admit(instruction: &Instruction) -> Result<Form<'_>, Fault>
 {
     match kind_by(instruction.opcode) {
         Kind::Block(transfer) => admit_block(transfer, instruction),
-        Kind::LoadOne => admit_one(true, instruction),
-        Kind::StoreOne => admit_one(false, instruction),
+        Kind::One { load } => admit_one(load, instruction),
         Kind::It => admit_it(instruction),
         Kind::Cps => admit_cps(instruction),
         Kind::Setend => admit_setend(instruction),
         Kind::Coprocessor(codes) => admit_coprocessor(codes, instruction),
-        Kind::Pop | Kind::Push | Kind::Plain => admit_plain(instruction),
+        Kind::List { .. } | Kind::Plain => admit_plain(instruction),
     }
 }

@@ -8,6 +8,7 @@ use armv7::{Operand, Reg};
 use kind::Transfer;
 
 // The register of a load that is a pop, or of a store that is a push.
+// Kept: guards for base 13, offset 4 and write-back, by a rule of the project (docs/DECISIONS.md).
 pub fn stack_register(load: bool, operands: &[Operand; 4]) -> Option<Reg>
     ensures register { result ≡ one_on_stack load operands.now }
 {

@@ -1,15 +1,16 @@
 -- The size of a line, from the sizes of its word and its rows. Assumes nothing.
-use Rattle.std.proofs.Common.{◌≡◌, ℕ, ◌+◌, ◌-◌, List, [], ◌∷◌, ◌++◌, map, length, codes, ap, ◌∙◌, arith}
+use Rattle.std.proofs.Common.{◌≡◌, ℕ, zero, suc, ◌+◌, ◌-◌, ◌/◌, ◌%◌, ◌<◌, cond, eqb, List, [], ◌∷◌, ◌++◌, map, length, codes, sym, refl, ap, ◌∙◌, arith, length-append, ne_eqb}
+use lib.Count.{ones, ones_step, ones-le}
 use Rattle.armv7.specs.declared.instruction.Instruction.{Instruction}
 use Rattle.sink.specs.declared.sink.Edge.TheVariants.{End}
 use Rattle.sink.specs.declared.sink.Span.TheVariants.{Opcode}
 use Rattle.sink.specs.Items.{Item, edge, text_items}
 use Rattle.sink.proofs.Rows.{length_bytes}
-use Rattle.visitor.specs.Texts.{followed, decimal}
+use Rattle.visitor.specs.Texts.{flagged, followed, decimal}
 use Rattle.lines.specs.declared.form.Form.{Form}
 use Rattle.lines.specs.Forms.{word_of, rows_of, parts_of}
-use Rattle.lines.specs.Lines.{word_items, behind_word, line_of, parts, line, code_row, code_rows}
-use Rattle.measurer.proofs.Sizes.{size, size_text}
+use Rattle.lines.specs.Lines.{word_items, behind_word, line_of, parts, line, cps_letters, flag_row, code_row, code_rows}
+use Rattle.measurer.proofs.Sizes.{size, size_text, flagged_length}
 
 -- a row behind a comma, and the rows that follow it
 pub row_size : (r : List Item) (rows : List (List Item)) → size (followed (r ∷ rows)) ≡ 2 + (size r + size (followed rows))
@@ -50,3 +51,28 @@ coprocessor_size c before rows behind e f g h =
 pub block_rows_size : {m n k : ℕ} (a b : List Item) (t : List ℕ) → m ≡ size a → n ≡ size (followed (b ∷ [])) → k ≡ length t → (2 + m) + n + k ≡ size (followed (a ∷ (b ++ text_items t) ∷ []))
 block_rows_size a b t e f g =
     omega (arith, e, f, g, row_size a ((b ++ text_items t) ∷ []), one_row_size b, one_row_size (b ++ text_items t), length_bytes b (text_items t), size_text t)
+
+-- a binary digit is a byte, where it is set
+digit : (d : ℕ) → d < 2 → cond (eqb d 1) 1 0 ≡ d
+digit zero h = refl
+digit (suc zero) h = refl
+digit (suc (suc d)) h = absurd (omega (arith, h))
+
+-- a letter for each of the three low bits
+letters_length : (n : ℕ) → length (cps_letters n) ≡ ones (n % 8)
+letters_length n =
+    let m = n % 8 in
+    let a = flagged_length (eqb (n / 4 % 2) 1) 97 ∙ digit (n / 4 % 2) (omega arith) in
+    let i = flagged_length (eqb (n / 2 % 2) 1) 105 ∙ digit (n / 2 % 2) (omega arith) in
+    let f = flagged_length (eqb (n % 2) 1) 102 ∙ digit (n % 2) (omega arith) in
+    let first = length-append (flagged (eqb (n / 4 % 2) 1) (codes "a")) (flagged (eqb (n / 2 % 2) 1) (codes "i") ++ flagged (eqb (n % 2) 1) (codes "f")) in
+    let second = length-append (flagged (eqb (n / 2 % 2) 1) (codes "i")) (flagged (eqb (n % 2) 1) (codes "f")) in
+    omega (arith, a, i, f, first, second, ones_step m, ones_step (m / 2), ones_step (m / 2 / 2), ones-le 0 (m / 2 / 2 / 2) (omega arith))
+
+-- the interrupts of a CPS, if there are any
+pub flag_row_size : (n : ℕ) → (n ≡ 0 → ⊥) → 2 + ones (n % 8) ≡ size (followed (flag_row n))
+flag_row_size n some =
+    sym (
+    ap (λ t. size (followed (cond t [] (text_items (cps_letters n) ∷ [])))) (ne_eqb n 0 some)
+    ∙ one_row_size (text_items (cps_letters n))
+    ∙ ap (λ k. 2 + k) (size_text (cps_letters n) ∙ letters_length n))

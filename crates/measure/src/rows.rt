@@ -67,7 +67,7 @@ fn block_rows(block: Block) -> usize
         + flag_size(block.transfer.user)
 }
 
-// The interrupts that a CPS switches, where there are any.
+// The interrupts that a CPS switches, where there are any: a letter for each bit.
 fn flags_size(flags: u16) -> usize
     ensures value { result ≡ length (bytes (followed (flag_row flags))) }
     ensures bound { result ≤ 5 }
@@ -75,7 +75,7 @@ fn flags_size(flags: u16) -> usize
     if flags == 0 {
         return 0;
     }
-    2 + flag_size(flags / 4 % 2 == 1) + flag_size(flags / 2 % 2 == 1) + flag_size(flags % 2 == 1)
+    2 + (flags % 8).count_ones() as usize
 }
 
 // The mode that a CPS changes to, where there is one.

@@ -109,6 +109,7 @@ impl OperandVisitor for Measurer {
         Ok(prefixed_size(imm))
     }
 
+    // Kept: two lines each for the two kinds of branch: one function over the scale would take those two lines and save none.
     fn visit_branch_offset(&mut self, offset: i32) -> Result<usize, Fault> {
         admit_distance(offset, 4, Place::First)?;
         Ok(2 + prefixed_size(4 * offset.unsigned_abs()))

@@ -7,17 +7,11 @@ use Rattle.blocks.proofs.transfer.sheet.Goals as goal
 pub returns-in-Block : goal.returns-in-Block
 returns-in-Block c = answered c.args.instruction.now _ _ c.in-Block.ensures.form c.block.ensures
 
-pub returns-in-LoadOne : goal.returns-in-LoadOne
-returns-in-LoadOne c = answered c.args.instruction.now _ _ c.in-LoadOne.ensures.form c.one.ensures
+pub returns-in-One : goal.returns-in-One
+returns-in-One c = answered c.args.instruction.now _ _ c.in-One.ensures.form c.one.ensures
 
-pub returns-in-StoreOne : goal.returns-in-StoreOne
-returns-in-StoreOne c = answered c.args.instruction.now _ _ c.in-StoreOne.ensures.form c.one-in-StoreOne.ensures
-
-pub returns-in-Pop : goal.returns-in-Pop
-returns-in-Pop c = answered c.args.instruction.now _ _ c.in-Pop.ensures.form c.list.ensures
-
-pub returns-in-Push : goal.returns-in-Push
-returns-in-Push c = answered c.args.instruction.now _ _ c.in-Push.ensures.form c.list-in-Push.ensures
+pub returns-in-List : goal.returns-in-List
+returns-in-List c = answered c.args.instruction.now _ _ c.in-List.ensures.form c.list.ensures
 
 pub returns-in-It : goal.returns-in-It
 returns-in-It c =
