@@ -1,5 +1,5 @@
 -- Instructions are read as they are written. Assumes nothing.
-use Rattle.std.proofs.Common.{◌≡◌, ℕ, ◌<◌, Bool, List, [], ◌∷◌, ◌++◌, length, Some, Ok, codes, refl, ap, ◌∙◌, subst, arith}
+use Rattle.std.proofs.Common.{◌≡◌, ℕ, ◌<◌, List, [], ◌∷◌, ◌++◌, length, Some, Ok, codes, refl, ap, ◌∙◌, subst, arith}
 use Rattle.armv7.specs.declared.condition.ConditionCode.{ConditionCode}
 use Rattle.armv7.specs.declared.condition.ConditionCode.TheVariants.{EQ, NE, HS, LO, MI, PL, VS, VC, HI, LS, GE, LT, GT, LE, AL}
 use Rattle.armv7.specs.declared.instruction.Instruction.{Instruction}
@@ -14,7 +14,8 @@ use Rattle.opcode_notation.specs.Written.{opcode_variant, opcode_written}
 use Rattle.opcode_notation.proofs.Opcodes.{opcode_faithful}
 use Rattle.operand_notation.specs.Written.{operands_written, OperandsHeld}
 use Rattle.operand_notation.proofs.Operands.{operands_faithful}
-use Rattle.call_notation.specs.Instructions.{conditions, widths, Fields, fields, from_fields, instruction}
+use Rattle.call_notation.specs.Instructions.{conditions, widths, from_flags, flags, Fields, fields, from_fields, instruction}
+use Rattle.call_notation.specs.declared.instruction.Flags.{Flags}
 use Rattle.call_notation.specs.Written.{condition_word, written, CanBe}
 
 condition_solid : (x : ConditionCode) → 0 < length (condition_word x)
@@ -59,18 +60,15 @@ condition_faithful : Faithful (λ _. Unit {0}) (λ x. condition_word x ∷ []) (
 unfolding conditions
 condition_faithful = chosen_faithful a_condition condition_word conditions refl condition_solid condition_found
 
-abbrev Widths : Type 0
-Widths = (Bool × Bool) × (Bool × Bool)
-
-abbrev widths_written : Widths → Tokens
-widths_written x =
-    codes "]" ∷ codes "," ∷ codes "s" ∷ codes ":" ∷ flag_word x.0.0
-    ∷ codes "," ∷ codes "wide" ∷ codes ":" ∷ flag_word x.0.1
-    ∷ codes "," ∷ codes "thumb_w" ∷ codes ":" ∷ flag_word x.1.0
-    ∷ codes "," ∷ codes "thumb" ∷ codes ":" ∷ flag_word x.1.1
+abbrev flags_written : Flags → Tokens
+flags_written x =
+    codes "]" ∷ codes "," ∷ codes "s" ∷ codes ":" ∷ flag_word x.s
+    ∷ codes "," ∷ codes "wide" ∷ codes ":" ∷ flag_word x.wide
+    ∷ codes "," ∷ codes "thumb_w" ∷ codes ":" ∷ flag_word x.thumb_w
+    ∷ codes "," ∷ codes "thumb" ∷ codes ":" ∷ flag_word x.thumb
     ∷ codes "}" ∷ []
 
-widths_faithful : Faithful (λ _. (Unit {0} × Unit {0}) × (Unit {0} × Unit {0})) widths_written widths
+widths_faithful : Faithful (λ _. (Unit {0} × Unit {0}) × (Unit {0} × Unit {0})) (λ x. flags_written (from_flags x)) widths
 widths_faithful =
     both_faithful
     (both_faithful
@@ -80,13 +78,23 @@ widths_faithful =
     (after_faithful (Comma ∷ ThumbW ∷ Colon ∷ []) (omega arith, (omega arith, (omega arith, tt))) flag_faithful)
     (before_faithful (CloseBrace ∷ []) (omega arith, tt) (after_faithful (Comma ∷ Thumb ∷ Colon ∷ []) (omega arith, (omega arith, (omega arith, tt))) flag_faithful)))
 
+flags_faithful : Faithful (λ _. (Unit {0} × Unit {0}) × (Unit {0} × Unit {0})) flags_written flags
+flags_faithful = record {
+  sound = λ ts x rest e.
+      let one = via_sound from_flags widths ts x rest e in
+      let part = widths_faithful.sound ts one.0 rest one.1.0 in
+      (part.0, part.1 ∙ ap (λ y. flags_written y ++ rest) one.1.1);
+  complete = λ x can rest.
+      ap (λ o. then o (λ y. Ok (from_flags y.0, y.1))) (widths_faithful.complete ((x.s, x.wide), (x.thumb_w, x.thumb)) can rest);
+}
+
 -- what follows the word `Instruction`
 abbrev body : Fields → Tokens
 body x =
     (codes "{" ∷ codes "condition" ∷ codes ":" ∷ condition_word x.0.0
     ∷ codes "," ∷ codes "opcode" ∷ codes ":" ∷ opcode_written x.0.1)
     ++ ((codes "," ∷ codes "operands" ∷ codes ":" ∷ codes "[" ∷ operands_written x.1.0)
-    ++ widths_written x.1.1)
+    ++ flags_written x.1.1)
 
 abbrev FieldsHeld : Fields → Type 0
 FieldsHeld x =
@@ -101,7 +109,7 @@ fields_faithful =
     (after_faithful (Comma ∷ OpcodeField ∷ Colon ∷ []) (omega arith, (omega arith, (omega arith, tt))) opcode_faithful))
     (both_faithful
     (after_faithful (Comma ∷ Operands ∷ Colon ∷ OpenBracket ∷ []) (omega arith, (omega arith, (omega arith, (omega arith, tt)))) operands_faithful)
-    widths_faithful)
+    flags_faithful)
 
 body_written : (x : Fields) → codes "Instruction" ∷ body x ≡ written (from_fields x)
 body_written x = refl
@@ -116,7 +124,7 @@ instruction_sound ts i rest e =
     )
 
 abbrev fields_of : Instruction → Fields
-fields_of i = ((i.condition, i.opcode), (i.operands, ((i.s, i.wide), (i.thumb_w, i.thumb))))
+fields_of i = ((i.condition, i.opcode), (i.operands, record { s = i.s; wide = i.wide; thumb_w = i.thumb_w; thumb = i.thumb }))
 
 pub instruction_complete : (i : Instruction) → CanBe i → (rest : Tokens) → instruction (others (written i) ++ rest) ≡ Ok (i, rest)
 instruction_complete i can rest =

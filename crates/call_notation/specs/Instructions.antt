@@ -8,6 +8,7 @@ use Rattle.opcode.specs.declared.Opcode.{Opcode}
 use Rattle.misreading.specs.declared.given.Given.TheVariants.{Condition, Opcode as OpcodeField, Operands, S, Wide, ThumbW, Thumb, OpenBrace, CloseBrace, OpenBracket, CloseBracket, Comma, Colon}
 use Rattle.misreading.specs.declared.misread.Expected.TheVariants.{Condition as a_condition}
 use Rattle.notation.specs.Parsing.{Parser, Table, chosen, flag, after, before, both, via}
+use Rattle.call_notation.specs.declared.instruction.Flags.{Flags}
 use Rattle.opcode_notation.specs.Opcodes.{opcode}
 use Rattle.operand_notation.specs.Operands.{operands}
 
@@ -26,21 +27,27 @@ widths =
     (both (after (CloseBracket ∷ Comma ∷ S ∷ Colon ∷ []) flag) (after (Comma ∷ Wide ∷ Colon ∷ []) flag))
     (both (after (Comma ∷ ThumbW ∷ Colon ∷ []) flag) (before (after (Comma ∷ Thumb ∷ Colon ∷ []) flag) (CloseBrace ∷ [])))
 
+abbrev pub from_flags : (Bool × Bool) × (Bool × Bool) → Flags
+from_flags x = record { s = x.0.0; wide = x.0.1; thumb_w = x.1.0; thumb = x.1.1 }
+
+abbrev pub flags : Parser Flags
+flags = via from_flags widths
+
 abbrev pub Fields : Type 0
-Fields = (ConditionCode × Opcode) × (List Operand × ((Bool × Bool) × (Bool × Bool)))
+Fields = (ConditionCode × Opcode) × (List Operand × Flags)
 
 abbrev pub fields : Parser Fields
-fields = both head (both (after (Comma ∷ Operands ∷ Colon ∷ OpenBracket ∷ []) operands) widths)
+fields = both head (both (after (Comma ∷ Operands ∷ Colon ∷ OpenBracket ∷ []) operands) flags)
 
 abbrev pub from_fields : Fields → Instruction
 from_fields x = record {
   condition = x.0.0;
   opcode = x.0.1;
   operands = x.1.0;
-  s = x.1.1.0.0;
-  wide = x.1.1.0.1;
-  thumb_w = x.1.1.1.0;
-  thumb = x.1.1.1.1;
+  s = x.1.1.s;
+  wide = x.1.1.wide;
+  thumb_w = x.1.1.thumb_w;
+  thumb = x.1.1.thumb;
 }
 
 abbrev pub instruction : Parser Instruction

@@ -2,7 +2,7 @@
 ghost use Rattle.misreading.specs.declared.misread.Expected.TheVariants.{Condition as ACondition};
 ghost use Rattle.notation.specs.Parsing.{after, chosen, flag};
 ghost use Rattle.notation.specs.Reads.{Reads};
-ghost use Rattle.call_notation.specs.Instructions.{conditions, head, widths, instruction};
+ghost use Rattle.call_notation.specs.Instructions.{conditions, head, flags, instruction};
 
 use armv7::{ConditionCode, Instruction, Opcode};
 use misreading::{Expected, Given};
@@ -28,6 +28,14 @@ const CONDITIONS: [(&[u8], ConditionCode); 15] = [
     (b"AL", ConditionCode::AL),
 ];
 
+// The last four fields of an instruction.
+pub struct Flags {
+    pub s: bool,
+    pub wide: bool,
+    pub thumb_w: bool,
+    pub thumb: bool,
+}
+
 // What follows the word `Instruction`.
 pub(crate) fn read_instruction(cursor: &mut Cursor<'_>) -> Result<Instruction, Slip>
     ensures { Reads instruction cursor.old result cursor.new }
@@ -40,7 +48,12 @@ pub(crate) fn read_instruction(cursor: &mut Cursor<'_>) -> Result<Instruction, S
         Given::OpenBracket,
     ])?;
     let operands = read_operands(cursor)?;
-    let ((s, wide), (thumb_w, thumb)) = read_widths(cursor)?;
+    let Flags {
+        s,
+        wide,
+        thumb_w,
+        thumb,
+    } = read_flags(cursor)?;
     Ok(Instruction {
         condition,
         opcode,
@@ -70,8 +83,8 @@ fn read_condition(cursor: &mut Cursor<'_>) -> Result<ConditionCode, Slip>
 }
 
 // The last four fields, with the bracket before them and the brace after them.
-fn read_widths(cursor: &mut Cursor<'_>) -> Result<((bool, bool), (bool, bool)), Slip>
-    ensures { Reads widths cursor.old result cursor.new }
+fn read_flags(cursor: &mut Cursor<'_>) -> Result<Flags, Slip>
+    ensures { Reads flags cursor.old result cursor.new }
 {
     let s = flag_after(
         cursor,
@@ -81,7 +94,12 @@ fn read_widths(cursor: &mut Cursor<'_>) -> Result<((bool, bool), (bool, bool)), 
     let thumb_w = flag_after(cursor, &[Given::Comma, Given::ThumbW, Given::Colon])?;
     let thumb = flag_after(cursor, &[Given::Comma, Given::Thumb, Given::Colon])?;
     cursor.expect(&[Given::CloseBrace])?;
-    Ok(((s, wide), (thumb_w, thumb)))
+    Ok(Flags {
+        s,
+        wide,
+        thumb_w,
+        thumb,
+    })
 }
 
 fn flag_after(cursor: &mut Cursor<'_>, front: &[Given]) -> Result<bool, Slip>

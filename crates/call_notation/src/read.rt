@@ -16,7 +16,7 @@ pub fn read_line(line: &[u8]) -> Result<Option<Call>, Misread<'_>>
     ensures answer { Answered line.now result }
 {
     let mut cursor = Cursor { line, at: 0 };
-    // Kept: of what the closure of a `map_err` gives nothing is known without a clause, which would repeat misread's.
+    // Kept: tried by `map_err`; of a closure that calls misread on the cursor the check knew nothing, and a clause would repeat misread's.
     match read_call(&mut cursor) {
         Ok(call) => Ok(call),
         Err(slip) => Err(cursor.misread(slip)),

@@ -5,7 +5,7 @@ use Rattle.notation.specs.declared.cursor.Cursor.{Cursor}
 use Rattle.notation.specs.declared.cursor.Slip.{Slip}
 use Rattle.notation.specs.Parsing.{Tokens, Parser, Stop}
 use Rattle.notation.specs.Places.{ahead, Stands}
-use Rattle.notation.specs.Tokens.{tokens, first}
+use Rattle.notation.specs.Tokens.{tokens, first, others}
 
 -- where reading stops, by what is wrong there and the tokens that are left
 abbrev pub stop : Slip → Tokens → Stop
@@ -15,6 +15,11 @@ stop s ts = record { left = ts; expected = s.expected; refusal = s.refusal }
 abbrev pub outcome : {X : Type 0} → Result X Slip → Tokens → Result (X × Tokens) Stop
 outcome (Ok x) ts = Ok (x, ts)
 outcome (Err s) ts = Err (stop s ts)
+
+-- the first token, as what it was read as
+abbrev pub read_as : {X : Type 0} → Result X Slip → Parser X
+read_as (Ok x) ts = Ok (x, others ts)
+read_as (Err s) ts = Err (stop s ts)
 
 -- r is what the parser makes of what is ahead: the cursor goes past what was read, and stops before what cannot be
 pub record Reads {X : Type 0} (p : Parser X) (before : Cursor) (r : Result X Slip) (after : Cursor) : Type 0 where

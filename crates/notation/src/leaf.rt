@@ -1,8 +1,11 @@
 // The leaves of the notation: given tokens, words of a table and numbers.
-ghost use Rattle.std.specs.Prelude.{◌≡◌, ◌≤◌, IfSome, IfOk};
+ghost use Rattle.std.specs.Prelude.{◌≡◌, ◌≤◌, IfSome, IfOk, Option};
+ghost use Rattle.std.specs.Fn.{FnOnceReturnsAt};
 ghost use Rattle.std.specs.Str.{bytes_eq};
 ghost use Rattle.notation.specs.Parsing.{numeral, row, rows, given, givens, chosen, number};
-ghost use Rattle.notation.specs.Reads.{Reads};
+ghost use Rattle.notation.specs.Places.{ahead};
+ghost use Rattle.notation.specs.Tokens.{first};
+ghost use Rattle.notation.specs.Reads.{Reads, read_as};
 
 use crate::cursor::{Cursor, Slip};
 use misreading::{Expected, Given};
@@ -32,7 +35,7 @@ pub(crate) fn numeral_of(text: &[u8], most: u32) -> Option<u32>
     Some(value as u32)
 }
 
-// Kept: the library tells of `==` of slices that it decides, and the tables are searched by `bytes_eq`.
+// Kept: `==` under a name whose contract says `bytes_eq`, by which the tables are searched; the library's says only that it decides equality.
 pub(crate) fn same(a: &[u8], b: &[u8]) -> bool
     ensures { result ≡ bytes_eq a.now b.now }
 {
@@ -48,16 +51,30 @@ pub fn row_of<T: Copy>(table: &[(&[u8], T)], word: &[u8]) -> Option<T>
 }
 
 impl<'a> Cursor<'a> {
+    // The next token, as what its text is read as.
+    pub(crate) fn take<T, F: FnOnce(&[u8]) -> Result<T, Slip>>(
+        &mut self,
+        value_of: F,
+    ) -> Result<T, Slip>
+        requires { F.IsAlwaysCallable value_of }
+        ensures { FnOnceReturnsAt F.FnOnce value_of (first (ahead self.old)) result × Reads (read_as result) self.old result self.new }
+    {
+        let token = self.token();
+        let value = value_of(token.text)?;
+        self.at = token.end;
+        Ok(value)
+    }
+
     // A token that has to stand there.
     fn pass(&mut self, wanted: Given) -> Result<(), Slip>
         ensures { Reads (given wanted) self.old result self.new }
     {
-        let token = self.token();
-        if !same(token.text, wanted.text()) {
-            return Err(Slip::new(Expected::Given(wanted)));
-        }
-        self.at = token.end;
-        Ok(())
+        self.take(|text| {
+            if !same(text, wanted.text()) {
+                return Err(Slip::new(Expected::Given(wanted)));
+            }
+            Ok(())
+        })
     }
 
     // Tokens that have to stand there, one after another.
@@ -74,12 +91,7 @@ impl<'a> Cursor<'a> {
     pub fn choose<T: Copy>(&mut self, table: &[(&[u8], T)], expected: Expected) -> Result<T, Slip>
         ensures reads { Reads (chosen expected (rows table.now)) self.old result self.new }
     {
-        let token = self.token();
-        let Some(value) = row_of(table, token.text) else {
-            return Err(Slip::new(expected));
-        };
-        self.at = token.end;
-        Ok(value)
+        self.take(|text| row_of(table, text).ok_or(Slip::new(expected)))
     }
 
     // A number up to `most`.
@@ -87,11 +99,6 @@ impl<'a> Cursor<'a> {
         ensures reads { Reads (number expected most) self.old result self.new }
         ensures bound { IfOk result (λ n. n ≤ most) }
     {
-        let token = self.token();
-        let Some(value) = numeral_of(token.text, most) else {
-            return Err(Slip::new(expected));
-        };
-        self.at = token.end;
-        Ok(value)
+        self.take(|text| numeral_of(text, most).ok_or(Slip::new(expected)))
     }
 }

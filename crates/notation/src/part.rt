@@ -3,9 +3,10 @@ ghost use Rattle.std.specs.Prelude.{◌≡◌, ◌≤◌, ℕ, Option, Result};
 ghost use Rattle.armv7.specs.declared.fault.Fault.{Fault};
 ghost use Rattle.armv7.specs.declared.fault.Fault.TheVariants.{Register as RegisterFault};
 ghost use Rattle.misreading.specs.declared.misread.Expected.TheVariants.{Code as AnyCode, Halfword as AnyHalfword, Word as AnyWord, Distance as AnyDistance};
-ghost use Rattle.notation.specs.Parsing.{Parser, bracketed, pair, number, numbered, flag};
+ghost use Rattle.notation.specs.Parsing.{Tokens, Parser, bracketed, pair, number, numbered, flag};
 ghost use Rattle.notation.specs.Parts.{braced, item, refusable, registers, controls, shift_of, register, control, shift, bank, mask, distance, negative};
-ghost use Rattle.notation.specs.Reads.{Reads};
+ghost use Rattle.notation.specs.Tokens.{first};
+ghost use Rattle.notation.specs.Reads.{Reads, read_as};
 
 use crate::cursor::{Cursor, Slip};
 use crate::leaf::{numeral_of, same};
@@ -69,6 +70,17 @@ impl Numbered for RegShift {
     fn from_number(n: u32) -> Result<RegShift, Fault> {
         RegShift::from_raw(n as u16)
     }
+}
+
+// The value with the number that a text writes.
+fn value_of<T: Numbered>(text: &[u8], expected: Expected) -> Result<T, Slip>
+    ensures { (ts : Tokens) → first ts ≡ text.now → numbered expected T.MOST T.meaning ts ≡ read_as result ts }
+{
+    let n = numeral_of(text, T::MOST).ok_or(Slip::new(expected))?;
+    T::from_number(n).map_err(|fault| Slip {
+        expected,
+        refusal: Some(fault),
+    })
 }
 
 const FLAGS: [(&[u8], bool); 2] = [(b"false", false), (b"true", true)];
@@ -240,28 +252,19 @@ impl<'a> Cursor<'a> {
     fn numbered<T: Numbered>(&mut self, expected: Expected) -> Result<T, Slip>
         ensures { Reads (numbered expected T.MOST T.meaning) self.old result self.new }
     {
-        let token = self.token();
-        let Some(n) = numeral_of(token.text, T::MOST) else {
-            return Err(Slip::new(expected));
-        };
-        let value = T::from_number(n).map_err(|fault| Slip {
-            expected,
-            refusal: Some(fault),
-        })?;
-        self.at = token.end;
-        Ok(value)
+        self.take(|text| value_of(text, expected))
     }
 
     // What follows a minus.
     fn below_zero(&mut self) -> Result<i32, Slip>
         ensures { Reads (numbered AnyDistance 2147483648 negative) self.old result self.new }
     {
-        let token = self.token();
-        let Some(n @ 1..) = numeral_of(token.text, 2147483648) else {
-            return Err(Slip::new(Expected::Distance));
-        };
-        self.at = token.end;
-        Ok((-i64::from(n)) as i32)
+        self.take(|text| {
+            let Some(n @ 1..) = numeral_of(text, 2147483648) else {
+                return Err(Slip::new(Expected::Distance));
+            };
+            Ok((-i64::from(n)) as i32)
+        })
     }
 
     // A part in parentheses.

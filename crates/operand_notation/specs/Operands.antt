@@ -1,6 +1,7 @@
 -- The reader on tokens: operands. Assumes nothing.
-use Rattle.std.specs.Prelude.{ℕ, List, [], ◌∷◌, Ok, codes}
+use Rattle.std.specs.Prelude.{ℕ, Bool, List, [], ◌∷◌, Ok, codes}
 use Rattle.armv7.specs.declared.operand.Operand.{Operand}
+use Rattle.armv7.specs.declared.reg.Reg.{Reg}
 use Rattle.armv7.specs.declared.operand.Operand.TheVariants.{Reg as in_reg, RegWBack, RegList, RegDeref, RegShift as in_shift, RegDerefPostindexRegShift, RegDerefPreindexRegShift, RegDerefPostindexOffset, RegDerefPreindexOffset, RegDerefPostindexReg, RegDerefPreindexReg, Imm12, Imm32, BranchOffset, BranchThumbOffset, Coprocessor as in_coprocessor, CoprocOption, CReg as in_creg, BankedReg, BankedSPSR, StatusRegMask as in_mask, APSR, SPSR, CPSR, Nothing}
 use Rattle.misreading.specs.declared.misread.Expected.TheVariants.{Operand as an_operand, Code as a_code, Halfword as a_halfword, Word as a_word}
 use Rattle.notation.specs.Parsing.{Parser, Table, then, via, pair, bracketed, number, flag, chosen}
@@ -46,6 +47,13 @@ halfword = number a_halfword 65535
 abbrev pub word : Parser ℕ
 word = number a_word 4294967295
 
+-- an indexed address: its base, its offset, whether this is added, and whether the base is written back
+abbrev pub Indexed : Type 0 → Type 0
+Indexed O = (Reg × O) × (Bool × Bool)
+
+abbrev pub indexed : {O : Type 0} → Parser O → Parser (Indexed O)
+indexed p = bracketed (pair (pair register p) (pair flag flag))
+
 -- nothing stands after the name
 abbrev pub alone : Operand → Parser Operand
 alone o ts = Ok (o, ts)
@@ -56,12 +64,12 @@ operand_with WrittenBack = via (λ x. RegWBack x.0 x.1) (bracketed (pair registe
 operand_with Registers = via (λ x. RegList x) (bracketed halfword)
 operand_with Address = via (λ x. RegDeref x) (bracketed register)
 operand_with Shifted = via (λ x. in_shift x) (bracketed shift)
-operand_with PostShifted = via (λ x. RegDerefPostindexRegShift x.0.0 x.0.1 x.1.0 x.1.1) (bracketed (pair (pair register shift) (pair flag flag)))
-operand_with PreShifted = via (λ x. RegDerefPreindexRegShift x.0.0 x.0.1 x.1.0 x.1.1) (bracketed (pair (pair register shift) (pair flag flag)))
-operand_with PostOffset = via (λ x. RegDerefPostindexOffset x.0.0 x.0.1 x.1.0 x.1.1) (bracketed (pair (pair register halfword) (pair flag flag)))
-operand_with PreOffset = via (λ x. RegDerefPreindexOffset x.0.0 x.0.1 x.1.0 x.1.1) (bracketed (pair (pair register halfword) (pair flag flag)))
-operand_with PostRegister = via (λ x. RegDerefPostindexReg x.0.0 x.0.1 x.1.0 x.1.1) (bracketed (pair (pair register register) (pair flag flag)))
-operand_with PreRegister = via (λ x. RegDerefPreindexReg x.0.0 x.0.1 x.1.0 x.1.1) (bracketed (pair (pair register register) (pair flag flag)))
+operand_with PostShifted = via (λ x. RegDerefPostindexRegShift x.0.0 x.0.1 x.1.0 x.1.1) (indexed shift)
+operand_with PreShifted = via (λ x. RegDerefPreindexRegShift x.0.0 x.0.1 x.1.0 x.1.1) (indexed shift)
+operand_with PostOffset = via (λ x. RegDerefPostindexOffset x.0.0 x.0.1 x.1.0 x.1.1) (indexed halfword)
+operand_with PreOffset = via (λ x. RegDerefPreindexOffset x.0.0 x.0.1 x.1.0 x.1.1) (indexed halfword)
+operand_with PostRegister = via (λ x. RegDerefPostindexReg x.0.0 x.0.1 x.1.0 x.1.1) (indexed register)
+operand_with PreRegister = via (λ x. RegDerefPreindexReg x.0.0 x.0.1 x.1.0 x.1.1) (indexed register)
 operand_with Twelve = via (λ x. Imm12 x) (bracketed halfword)
 operand_with Word = via (λ x. Imm32 x) (bracketed word)
 operand_with Branch = via (λ x. BranchOffset x) (bracketed distance)

@@ -1,12 +1,14 @@
 // Operands.
 ghost use Rattle.misreading.specs.declared.misread.Expected.TheVariants.{Operand as AnOperand};
-ghost use Rattle.notation.specs.Parsing.{chosen, pair};
+ghost use Rattle.std.specs.Prelude.{◌≡◌};
+ghost use Rattle.armv7.specs.declared.operand.Operand.{Operand};
+ghost use Rattle.notation.specs.Parsing.{chosen, pair, via};
 ghost use Rattle.notation.specs.Reads.{Reads};
-ghost use Rattle.operand_notation.specs.Operands.{names, operand_with, operand, operands};
+ghost use Rattle.operand_notation.specs.Operands.{Indexed, indexed, names, operand_with, operand, operands};
 
-use armv7::Operand;
+use armv7::{Operand, Reg};
 use misreading::{Expected, Given};
-use notation::{Cursor, Slip};
+use notation::{Cursor, Part, Slip};
 
 // Operands, by what they are.
 // Kept: names in place of functions in a table, since a name needs no clause of its own, and a function in a table would.
@@ -111,30 +113,12 @@ fn named(cursor: &mut Cursor<'_>, name: Name) -> Result<Operand, Slip>
         Name::Registers => cursor.bracketed().map(Operand::RegList),
         Name::Address => cursor.bracketed().map(Operand::RegDeref),
         Name::Shifted => cursor.bracketed().map(Operand::RegShift),
-        Name::PostShifted => {
-            let ((base, shift), (add, back)) = cursor.bracketed()?;
-            Ok(Operand::RegDerefPostindexRegShift(base, shift, add, back))
-        }
-        Name::PreShifted => {
-            let ((base, shift), (add, back)) = cursor.bracketed()?;
-            Ok(Operand::RegDerefPreindexRegShift(base, shift, add, back))
-        }
-        Name::PostOffset => {
-            let ((base, offset), (add, back)) = cursor.bracketed()?;
-            Ok(Operand::RegDerefPostindexOffset(base, offset, add, back))
-        }
-        Name::PreOffset => {
-            let ((base, offset), (add, back)) = cursor.bracketed()?;
-            Ok(Operand::RegDerefPreindexOffset(base, offset, add, back))
-        }
-        Name::PostRegister => {
-            let ((base, index), (add, back)) = cursor.bracketed()?;
-            Ok(Operand::RegDerefPostindexReg(base, index, add, back))
-        }
-        Name::PreRegister => {
-            let ((base, index), (add, back)) = cursor.bracketed()?;
-            Ok(Operand::RegDerefPreindexReg(base, index, add, back))
-        }
+        Name::PostShifted => indexed(cursor, Operand::RegDerefPostindexRegShift),
+        Name::PreShifted => indexed(cursor, Operand::RegDerefPreindexRegShift),
+        Name::PostOffset => indexed(cursor, Operand::RegDerefPostindexOffset),
+        Name::PreOffset => indexed(cursor, Operand::RegDerefPreindexOffset),
+        Name::PostRegister => indexed(cursor, Operand::RegDerefPostindexReg),
+        Name::PreRegister => indexed(cursor, Operand::RegDerefPreindexReg),
         Name::Twelve => cursor.bracketed().map(Operand::Imm12),
         Name::Word => cursor.bracketed().map(Operand::Imm32),
         Name::Branch => cursor.bracketed().map(Operand::BranchOffset),
@@ -152,4 +136,16 @@ fn named(cursor: &mut Cursor<'_>, name: Name) -> Result<Operand, Slip>
         Name::Current => Ok(Operand::CPSR),
         Name::Nothing => Ok(Operand::Nothing),
     }
+}
+
+// An indexed address: what `make` makes of its base, its offset, and whether this is added and the base written back.
+fn indexed<O: Part, F: FnOnce(Reg, O, bool, bool) -> Operand>(
+    cursor: &mut Cursor<'_>,
+    make: F,
+) -> Result<Operand, Slip>
+    requires { F.IsAlwaysCallable make }
+    ensures { (f : Indexed O → Operand) → ((x : Indexed O) (o : Operand) → F.post make x.0.0 x.0.1 x.1.0 x.1.1 o → o ≡ f x) → Reads (via f (indexed O.Part.parser)) cursor.old result cursor.new }
+{
+    let ((base, offset), (add, back)) = cursor.bracketed()?;
+    Ok(make(base, offset, add, back))
 }
