@@ -36,25 +36,27 @@ const HELD: [(Result<(), Fault>, usize, usize, [u8; 16]); 3] = [
     (Ok(()), 14, 8, *b"add r0, r1, r2--"),
 ];
 
-// Each mark, and where it falls.
-const MARKS: [(Edge, Span, usize); 8] = [
-    (Edge::Start, Span::Opcode, 0),
-    (Edge::End, Span::Opcode, 3),
-    (Edge::Start, Span::Register, 4),
-    (Edge::End, Span::Register, 6),
-    (Edge::Start, Span::Register, 8),
-    (Edge::End, Span::Register, 10),
-    (Edge::Start, Span::Register, 12),
-    (Edge::End, Span::Register, 14),
-];
-
 const NO_MARK: Mark = Mark {
     at: 99,
     ..Mark::BLANK
 };
 
-fn seen(mark: Mark) -> (Edge, Span, usize) {
-    (mark.edge, mark.span, mark.at)
+fn mark(edge: Edge, span: Span, at: usize) -> Mark {
+    Mark { edge, span, at }
+}
+
+// The marks of the whole line.
+fn marks() -> [Mark; 8] {
+    [
+        mark(Edge::Start, Span::Opcode, 0),
+        mark(Edge::End, Span::Opcode, 3),
+        mark(Edge::Start, Span::Register, 4),
+        mark(Edge::End, Span::Register, 6),
+        mark(Edge::Start, Span::Register, 8),
+        mark(Edge::End, Span::Register, 10),
+        mark(Edge::Start, Span::Register, 12),
+        mark(Edge::End, Span::Register, 14),
+    ]
 }
 
 // The answer, and how many bytes and marks there are.
@@ -92,13 +94,9 @@ fn marks_stop_with_the_text(rt: HostRuntime) {
         let held = marked(&add(), &mut buf[..SHORT + more], &mut row);
         assert!(rt; held == (*answer, *size, *count));
         assert!(rt; buf == *memory);
-        for ((place, mark), written) in row.iter().enumerate().zip(MARKS) {
-            let expected = if place < *count {
-                written
-            } else {
-                seen(NO_MARK)
-            };
-            assert!(rt; seen(*mark) == expected);
+        for ((place, mark), written) in row.iter().enumerate().zip(marks()) {
+            let expected = if place < *count { written } else { NO_MARK };
+            assert!(rt; *mark == expected);
         }
     }
 }

@@ -2,7 +2,7 @@
 use armv7::{Call, Fault};
 
 // A fault, and how many lines the page had.
-#[derive(Clone, Copy)]
+#[derive(Clone, Copy, PartialEq, Eq)]
 pub struct PageFault {
     pub fault: Fault,
     pub count: u64,

@@ -4,7 +4,7 @@
 #[cfg(test)]
 mod tests {
     use armv7::{Call, Fault, Instruction, Opcode, Operand, Place, Reg};
-    use page::{Entry, Page};
+    use page::{Entry, Page, PageFault};
     use runs::run;
     use sink::{DisplaySink, Mark, MarkSink, TextSink};
 
@@ -40,11 +40,9 @@ mod tests {
         }
     }
 
-    // The count, or a refusal with the count beside it.
-    fn told(entry: &Entry) -> Result<u64, (u64, Fault)> {
-        entry
-            .answer
-            .map_err(|refused| (refused.count, refused.fault))
+    // A refusal, where the page had so many lines.
+    fn refused(fault: Fault, count: u64) -> Result<u64, PageFault> {
+        Err(PageFault { fault, count })
     }
 
     #[test]
@@ -55,9 +53,9 @@ mod tests {
         assert_eq!(rt; closed.count(), 1);
         assert_eq!(rt; closed.end().end(), 13);
         assert!(rt; memory == *b"pop {r4, pc}\n");
-        assert!(rt; told(&entries[0]) == Ok(1));
-        assert!(rt; told(&entries[1]) == Err((1, Fault::PageFull)));
-        assert!(rt; told(&entries[2]) == Err((1, Fault::PageFull)));
+        assert!(rt; entries[0].answer == Ok(1));
+        assert!(rt; entries[1].answer == refused(Fault::PageFull, 1));
+        assert!(rt; entries[2].answer == refused(Fault::PageFull, 1));
     }
 
     #[test]
@@ -68,8 +66,8 @@ mod tests {
         assert_eq!(rt; closed.count(), 2);
         assert_eq!(rt; closed.end().end(), 14);
         assert!(rt; memory == *b"pop {r4, pc}\n\n");
-        assert!(rt; told(&entries[1]) == Ok(2));
-        assert!(rt; told(&entries[2]) == Err((2, Fault::PageFull)));
+        assert!(rt; entries[1].answer == Ok(2));
+        assert!(rt; entries[2].answer == refused(Fault::PageFull, 2));
     }
 
     #[test]
@@ -79,8 +77,8 @@ mod tests {
         let closed = run(TextSink::new(&mut memory), &mut entries);
         assert_eq!(rt; closed.end().end(), 1);
         assert!(rt; memory == [10, 7, 7, 7, 7, 7, 7, 7, 7, 7, 7, 7]);
-        assert!(rt; told(&entries[0]) == Err((0, Fault::PageFull)));
-        assert!(rt; told(&entries[1]) == Ok(1));
+        assert!(rt; entries[0].answer == refused(Fault::PageFull, 0));
+        assert!(rt; entries[1].answer == Ok(1));
     }
 
     #[test]
@@ -89,10 +87,10 @@ mod tests {
         let mut entries = [entry(dead()), entry(pop()), entry(dead()), entry(Call::Gap)];
         let closed = run(TextSink::new(&mut memory), &mut entries);
         assert_eq!(rt; closed.end().end(), 14);
-        assert!(rt; told(&entries[0]) == Err((0, NO_TEXT)));
-        assert!(rt; told(&entries[1]) == Ok(1));
-        assert!(rt; told(&entries[2]) == Err((1, NO_TEXT)));
-        assert!(rt; told(&entries[3]) == Ok(2));
+        assert!(rt; entries[0].answer == refused(NO_TEXT, 0));
+        assert!(rt; entries[1].answer == Ok(1));
+        assert!(rt; entries[2].answer == refused(NO_TEXT, 1));
+        assert!(rt; entries[3].answer == Ok(2));
     }
 
     #[test]
@@ -107,7 +105,7 @@ mod tests {
         assert_eq!(rt; closed.end().end(), (16, 4));
         assert!(rt; memory == *b"ab\npop {r4, pc}\n");
         assert!(rt; row.map(|mark| mark.at) == [3, 3, 6, 8]);
-        assert!(rt; told(&entries[0]) == Ok(1));
+        assert!(rt; entries[0].answer == Ok(1));
     }
 
     // How many marks a page of one pop keeps, of so many.
@@ -141,9 +139,9 @@ mod tests {
         );
         assert_eq!(rt; closed.count(), 0);
         assert_eq!(rt; closed.end().end(), (0, 0));
-        assert!(rt; told(&entries[0]) == Err((0, Fault::PageFull)));
-        assert!(rt; told(&entries[1]) == Err((0, NO_TEXT)));
-        assert!(rt; told(&entries[2]) == Err((0, Fault::PageFull)));
+        assert!(rt; entries[0].answer == refused(Fault::PageFull, 0));
+        assert!(rt; entries[1].answer == refused(NO_TEXT, 0));
+        assert!(rt; entries[2].answer == refused(Fault::PageFull, 0));
     }
 
     #[test]
