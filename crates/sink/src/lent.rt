@@ -6,7 +6,20 @@ ghost use Rattle.sink.specs.Outcome.{outcome, full_below};
 
 use armv7::Fault;
 
+// Copies a piece that there is room for behind the first `used` elements.
+// Not inline: a copy of any length is long code, and would keep the writers of short pieces from being inline themselves.
+#[inline(never)]
+fn copy<T: Copy>(memory: &mut [T], used: usize, piece: &[T])
+    requires { used + length piece.now ≤ length memory.old }
+    ensures text { take (used + length piece.now) memory.new ≡ take used memory.old ++ piece.now }
+    ensures rest { Filled memory.old used memory.new (used + length piece.now) }
+{
+    memory[used..used + piece.len()].copy_from_slice(piece);
+}
+
 // Puts a piece that there is room for behind the first `used` elements, and counts it to them.
+// Kept: a short piece element by element, since with one copy for all lengths a printer misses its bar of speed (docs/SPEED.md).
+#[inline(always)]
 fn place<T: Copy>(memory: &mut [T], used: &mut usize, piece: &[T])
     requires { used.old + length piece.now ≤ length memory.old }
     ensures count { used.new ≡ used.old + length piece.now }
@@ -14,10 +27,8 @@ fn place<T: Copy>(memory: &mut [T], used: &mut usize, piece: &[T])
     ensures rest { Filled memory.old used.old memory.new used.new }
 {
     let start = *used;
-    let end = start + piece.len();
-    // Kept: two and three elements, as a register's name has, one by one: a list of all registers takes 26 instructions a register
-    // in this form, and 56 by copy_from_slice alone.
     match *piece {
+        [a] => memory[start] = a,
         [a, b] => {
             memory[start] = a;
             memory[start + 1] = b;
@@ -27,13 +38,20 @@ fn place<T: Copy>(memory: &mut [T], used: &mut usize, piece: &[T])
             memory[start + 1] = b;
             memory[start + 2] = c;
         }
-        _ => memory[start..end].copy_from_slice(piece),
+        [a, b, c, d] => {
+            memory[start] = a;
+            memory[start + 1] = b;
+            memory[start + 2] = c;
+            memory[start + 3] = d;
+        }
+        _ => copy(memory, start, piece),
     }
-    *used = end;
+    *used = start + piece.len();
 }
 
 // Puts as much of the piece as there is room for behind the first `used` elements, counts it to them, and refuses a piece that is
 // longer.
+#[inline(always)]
 pub(crate) fn append<T: Copy>(memory: &mut [T], used: &mut usize, piece: &[T]) -> Result<(), Fault>
     requires { used.old ≤ length memory.old }
     ensures count { used.new ≡ min (used.old + length piece.now) (length memory.old) }
@@ -43,7 +61,8 @@ pub(crate) fn append<T: Copy>(memory: &mut [T], used: &mut usize, piece: &[T]) -
 {
     let left = memory.len() - *used;
     if piece.len() > left {
-        place(memory, used, &piece[..left]);
+        copy(memory, *used, &piece[..left]);
+        *used = memory.len();
         return Err(Fault::SinkFull);
     }
     place(memory, used, piece);

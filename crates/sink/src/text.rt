@@ -53,6 +53,8 @@ impl DisplaySink for TextSink<'_> {
 
     ghost laws = { text_laws };
 
+    // Inline, so that a fixed piece is a store.
+    #[inline(always)]
     fn write(&mut self, piece: &[u8]) -> Result<(), Fault> {
         append(self.buf, &mut self.len, piece)
     }

@@ -11,6 +11,8 @@ ghost use Rattle.visitor.specs.Texts.{flagged, spanned, reg_items};
 use armv7::{Bank, Fault, Reg};
 use sink::DisplaySink;
 
+// Inline, so that a fixed piece is a store.
+#[inline(always)]
 pub fn write_text<T: DisplaySink>(out: &mut T, piece: &[u8]) -> Result<(), Fault>
     ensures printed { Printed T.meaning T.kept (text_items piece.now) out.old (outcome result) out.new }
 {
@@ -55,12 +57,14 @@ fn in_register_span<T: DisplaySink, F: FnOnce(&mut T) -> Result<(), Fault>>(
 }
 
 // A name in a register span.
+#[inline(always)]
 pub fn write_spanned<T: DisplaySink>(out: &mut T, name: &[u8]) -> Result<(), Fault>
     ensures printed { Printed T.meaning T.kept (spanned name.now) out.old (outcome result) out.new }
 {
     in_register_span(out, |out| write_text(out, name))
 }
 
+#[inline(always)]
 pub fn write_reg<T: DisplaySink>(out: &mut T, reg: Reg) -> Result<(), Fault>
     ensures printed { Printed T.meaning T.kept (reg_items reg) out.old (outcome result) out.new }
 {
