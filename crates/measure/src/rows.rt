@@ -67,7 +67,7 @@ fn block_rows(block: Block) -> usize
         + flag_size(block.transfer.user)
 }
 
-// The interrupts that a CPS switches, where there are any: a letter for each bit.
+// The interrupts that a CPS switches, where there are any: a letter for each set bit of the low three.
 fn flags_size(flags: u16) -> usize
     ensures value { result ≡ length (bytes (followed (flag_row flags))) }
     ensures bound { result ≤ 5 }
