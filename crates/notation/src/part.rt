@@ -1,5 +1,5 @@
 // What can stand in an argument's place: flags, numbers, registers, shifts, banks and masks, and pairs of them.
-ghost use Rattle.std.specs.Prelude.{◌≡◌, ◌≤◌, ℕ, Option, Result};
+ghost use Rattle.std.specs.Prelude.{◌≡◌, ◌≤◌, ℕ, Ok, Option, Result, pos};
 ghost use Rattle.armv7.specs.declared.fault.Fault.{Fault};
 ghost use Rattle.armv7.specs.declared.fault.Fault.TheVariants.{Register as RegisterFault};
 ghost use Rattle.misreading.specs.declared.misread.Expected.TheVariants.{Code as AnyCode, Halfword as AnyHalfword, Word as AnyWord, Distance as AnyDistance};
@@ -69,6 +69,54 @@ impl Numbered for RegShift {
 
     fn from_number(n: u32) -> Result<RegShift, Fault> {
         RegShift::from_raw(n as u16)
+    }
+}
+
+impl Numbered for u8 {
+    ghost MOST = { 255 };
+
+    ghost meaning = { λ n. Ok n };
+
+    const MOST: u32 = u8::MAX as u32;
+
+    fn from_number(n: u32) -> Result<u8, Fault> {
+        Ok(n as u8)
+    }
+}
+
+impl Numbered for u16 {
+    ghost MOST = { 65535 };
+
+    ghost meaning = { λ n. Ok n };
+
+    const MOST: u32 = u16::MAX as u32;
+
+    fn from_number(n: u32) -> Result<u16, Fault> {
+        Ok(n as u16)
+    }
+}
+
+impl Numbered for u32 {
+    ghost MOST = { 4294967295 };
+
+    ghost meaning = { λ n. Ok n };
+
+    const MOST: u32 = u32::MAX;
+
+    fn from_number(n: u32) -> Result<u32, Fault> {
+        Ok(n)
+    }
+}
+
+impl Numbered for i32 {
+    ghost MOST = { 2147483647 };
+
+    ghost meaning = { λ n. Ok (pos n) };
+
+    const MOST: u32 = i32::MAX as u32;
+
+    fn from_number(n: u32) -> Result<i32, Fault> {
+        Ok(n as i32)
     }
 }
 
@@ -143,8 +191,7 @@ impl Part for u8 {
     ghost parser = { number AnyCode 255 };
 
     fn read(cursor: &mut Cursor<'_>) -> Result<u8, Slip> {
-        let n = cursor.number(255, Expected::Code)?;
-        Ok(n as u8)
+        cursor.numbered(Expected::Code)
     }
 }
 
@@ -152,8 +199,7 @@ impl Part for u16 {
     ghost parser = { number AnyHalfword 65535 };
 
     fn read(cursor: &mut Cursor<'_>) -> Result<u16, Slip> {
-        let n = cursor.number(65535, Expected::Halfword)?;
-        Ok(n as u16)
+        cursor.numbered(Expected::Halfword)
     }
 }
 
@@ -161,7 +207,7 @@ impl Part for u32 {
     ghost parser = { number AnyWord 4294967295 };
 
     fn read(cursor: &mut Cursor<'_>) -> Result<u32, Slip> {
-        cursor.number(4294967295, Expected::Word)
+        cursor.numbered(Expected::Word)
     }
 }
 
@@ -175,8 +221,7 @@ impl Part for i32 {
             cursor.at = token.end;
             return cursor.below_zero();
         }
-        let n = cursor.number(2147483647, Expected::Distance)?;
-        Ok(n as i32)
+        cursor.numbered(Expected::Distance)
     }
 }
 
