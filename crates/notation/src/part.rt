@@ -108,6 +108,7 @@ impl Numbered for u32 {
     }
 }
 
+// From zero on; what is below follows a minus.
 impl Numbered for i32 {
     ghost MOST = { 2147483647 };
 
@@ -186,7 +187,7 @@ impl Part for bool {
     }
 }
 
-// Kept: three widths by hand, since each has its own words for what was expected, and all they share is one call.
+// Kept: three widths by hand, since each has its own largest number and words for what was expected, and all they share is one call.
 impl Part for u8 {
     ghost parser = { number AnyCode 255 };
 
