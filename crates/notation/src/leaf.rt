@@ -2,7 +2,7 @@
 ghost use Rattle.std.specs.Prelude.{◌≡◌, ◌≤◌, IfSome, IfOk, Option};
 ghost use Rattle.std.specs.Fn.{FnOnceReturnsAt};
 ghost use Rattle.std.specs.Str.{bytes_eq};
-ghost use Rattle.notation.specs.Parsing.{numeral, row, rows, given, givens, chosen, number};
+ghost use Rattle.notation.specs.Parsing.{numeral, row, rows, given, givens, chosen};
 ghost use Rattle.notation.specs.Places.{ahead};
 ghost use Rattle.notation.specs.Tokens.{first};
 ghost use Rattle.notation.specs.Reads.{Reads, read_as};
@@ -92,13 +92,5 @@ impl<'a> Cursor<'a> {
         ensures reads { Reads (chosen expected (rows table.now)) self.old result self.new }
     {
         self.take(|text| row_of(table, text).ok_or(Slip::new(expected)))
-    }
-
-    // A number up to `most`.
-    pub(crate) fn number(&mut self, most: u32, expected: Expected) -> Result<u32, Slip>
-        ensures reads { Reads (number expected most) self.old result self.new }
-        ensures bound { IfOk result (λ n. n ≤ most) }
-    {
-        self.take(|text| numeral_of(text, most).ok_or(Slip::new(expected)))
     }
 }

@@ -1,5 +1,5 @@
 // What can stand in an argument's place: flags, numbers, registers, shifts, banks and masks, and pairs of them.
-ghost use Rattle.std.specs.Prelude.{◌≡◌, ◌≤◌, ℕ, Option, Result};
+ghost use Rattle.std.specs.Prelude.{◌≡◌, ◌≤◌, ℕ, Ok, Option, Result, pos};
 ghost use Rattle.armv7.specs.declared.fault.Fault.{Fault};
 ghost use Rattle.armv7.specs.declared.fault.Fault.TheVariants.{Register as RegisterFault};
 ghost use Rattle.misreading.specs.declared.misread.Expected.TheVariants.{Code as AnyCode, Halfword as AnyHalfword, Word as AnyWord, Distance as AnyDistance};
@@ -72,6 +72,55 @@ impl Numbered for RegShift {
     }
 }
 
+impl Numbered for u8 {
+    ghost MOST = { 255 };
+
+    ghost meaning = { λ n. Ok n };
+
+    const MOST: u32 = u8::MAX as u32;
+
+    fn from_number(n: u32) -> Result<u8, Fault> {
+        Ok(n as u8)
+    }
+}
+
+impl Numbered for u16 {
+    ghost MOST = { 65535 };
+
+    ghost meaning = { λ n. Ok n };
+
+    const MOST: u32 = u16::MAX as u32;
+
+    fn from_number(n: u32) -> Result<u16, Fault> {
+        Ok(n as u16)
+    }
+}
+
+impl Numbered for u32 {
+    ghost MOST = { 4294967295 };
+
+    ghost meaning = { λ n. Ok n };
+
+    const MOST: u32 = u32::MAX;
+
+    fn from_number(n: u32) -> Result<u32, Fault> {
+        Ok(n)
+    }
+}
+
+// From zero on; what is below follows a minus.
+impl Numbered for i32 {
+    ghost MOST = { 2147483647 };
+
+    ghost meaning = { λ n. Ok (pos n) };
+
+    const MOST: u32 = i32::MAX as u32;
+
+    fn from_number(n: u32) -> Result<i32, Fault> {
+        Ok(n as i32)
+    }
+}
+
 // The value with the number that a text writes.
 fn value_of<T: Numbered>(text: &[u8], expected: Expected) -> Result<T, Slip>
     ensures { (ts : Tokens) → first ts ≡ text.now → numbered expected T.MOST T.meaning ts ≡ read_as result ts }
@@ -138,13 +187,12 @@ impl Part for bool {
     }
 }
 
-// Kept: three widths by hand, since each has its own words for what was expected, and all they share is one call.
+// Kept: three widths by hand, since each has its own largest number and words for what was expected, and all they share is one call.
 impl Part for u8 {
     ghost parser = { number AnyCode 255 };
 
     fn read(cursor: &mut Cursor<'_>) -> Result<u8, Slip> {
-        let n = cursor.number(255, Expected::Code)?;
-        Ok(n as u8)
+        cursor.numbered(Expected::Code)
     }
 }
 
@@ -152,8 +200,7 @@ impl Part for u16 {
     ghost parser = { number AnyHalfword 65535 };
 
     fn read(cursor: &mut Cursor<'_>) -> Result<u16, Slip> {
-        let n = cursor.number(65535, Expected::Halfword)?;
-        Ok(n as u16)
+        cursor.numbered(Expected::Halfword)
     }
 }
 
@@ -161,7 +208,7 @@ impl Part for u32 {
     ghost parser = { number AnyWord 4294967295 };
 
     fn read(cursor: &mut Cursor<'_>) -> Result<u32, Slip> {
-        cursor.number(4294967295, Expected::Word)
+        cursor.numbered(Expected::Word)
     }
 }
 
@@ -175,8 +222,7 @@ impl Part for i32 {
             cursor.at = token.end;
             return cursor.below_zero();
         }
-        let n = cursor.number(2147483647, Expected::Distance)?;
-        Ok(n as i32)
+        cursor.numbered(Expected::Distance)
     }
 }
 

@@ -13,6 +13,7 @@ use notation::{Cursor, Slip};
 pub fn read_opcode(cursor: &mut Cursor<'_>) -> Result<Opcode, Slip>
     ensures reads { Reads opcode cursor.old result cursor.new }
 {
+    // Kept: stepping on by hand; notation's `take` asks of its caller that a closure can be called, and none that is public asks.
     let token = cursor.token();
     if let Some(opcode) = plain_of(token.text) {
         cursor.at = token.end;
