@@ -24,6 +24,7 @@ mod tests {
     }
 
     // The inks of the cells, by number.
+    // Kept: numbers are what the rule gives an ink, and they stand below the letters that they belong to.
     fn inks(cells: [Cell; 8]) -> [u8; 8] {
         cells.map(|cell| cell.ink.number())
     }

@@ -125,8 +125,8 @@ pub(crate) fn of(
     };
     account.page(page, options)?;
     let mut rows = page.text.lines();
-    for (numbered, entry) in calls.numbered.iter().zip(page.entries.iter()) {
-        write!(account.text, "line {}: ", numbered.line)?;
+    for (line, entry) in calls.lines.iter().zip(calls.entries.iter()) {
+        write!(account.text, "line {line}: ")?;
         match &entry.answer {
             Ok(count) => {
                 let row = rows.next().unwrap_or("");
@@ -141,12 +141,17 @@ pub(crate) fn of(
 }
 
 // The page's lines, in colour where that was asked for.
-pub(crate) fn lines(heap: Global, page: &Printed, options: &Options) -> Result<String, AllocError> {
+pub(crate) fn lines(
+    heap: Global,
+    calls: &Calls,
+    page: &Printed,
+    options: &Options,
+) -> Result<String, AllocError> {
     if !options.color {
         return page.text.clone();
     }
     let mut text = String::new(heap);
-    for entry in page.entries.iter() {
+    for entry in calls.entries.iter() {
         push_accepted(&mut text, entry)?;
     }
     Ok(text)

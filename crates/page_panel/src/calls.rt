@@ -1,28 +1,34 @@
 // The calls of a record, each with the number of its line, and what is said of lines that could not be read.
 use armv7::Call;
 use call_notation::{message, read_line};
+use page::Entry;
 use std::alloc::{AllocError, Global};
 use wording::Misreadings;
 
-// A call, and the line that it stands on.
-#[derive(Clone, Copy)]
-pub struct Numbered {
-    pub line: u64,
-    pub call: Call,
-}
-
 #[derive(Drop)]
 pub struct Calls {
-    pub numbered: Vec<Numbered>,
+    // The line that each call stands on.
+    pub lines: Vec<u64>,
+    // Each call, with the page's answer once it is made.
+    pub entries: Vec<Entry>,
     pub misreadings: Misreadings,
 }
 
 impl Calls {
+    fn add(&mut self, number: u64, call: Call) -> Result<(), AllocError> {
+        self.lines.push(number)?;
+        self.entries.push(Entry {
+            call,
+            answer: Ok(0),
+        })?;
+        Ok(())
+    }
+
     // One line of the record.
     fn line(&mut self, heap: Global, number: u64, line: &[u8]) -> Result<(), AllocError> {
         match read_line(line) {
             Ok(None) => Ok(()),
-            Ok(Some(call)) => Ok(self.numbered.push(Numbered { line: number, call })?),
+            Ok(Some(call)) => self.add(number, call),
             Err(misread) => {
                 let told = message(heap, number, &misread)?;
                 self.misreadings.add(told.as_slice())
@@ -34,7 +40,8 @@ impl Calls {
 // The calls of a whole record; byte 10 ends a line. What is left behind the last one may be empty, and then is no call.
 pub(crate) fn of(heap: Global, record: &[u8]) -> Result<Calls, AllocError> {
     let mut calls = Calls {
-        numbered: Vec::new(heap),
+        lines: Vec::new(heap),
+        entries: Vec::new(heap),
         misreadings: Misreadings::none(heap),
     };
     for (line, number) in record.split(|b| *b == b'\n').zip(1..) {

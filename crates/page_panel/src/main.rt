@@ -29,7 +29,7 @@ Lines that cannot be read are told on standard error, and the program then ends 
 ";
 
 // The bytes of the record: a failing controller may leave any.
-// Kept: panel reads text, and shows another account.
+// Kept: record_of, show and run stand in panel too, which reads text and shows another account.
 fn record_of(rt: &HostRuntime, options: &Options) -> anyhow::Result<Vec<u8>> {
     match &options.file {
         Some(path) => Ok(fs::read(rt, path.as_str())?),
@@ -59,9 +59,9 @@ fn run(rt: &HostRuntime) -> anyhow::Result<()> {
     }
     let heap = rt.alloc();
     let record = record_of(rt, &options)?;
-    let calls = calls::of(heap, record.as_slice())?;
-    let page = printed::on_page(heap, calls.numbered.as_slice(), &options)?;
-    let lines = account::lines(heap, &page, &options)?;
+    let mut calls = calls::of(heap, record.as_slice())?;
+    let page = printed::on_page(heap, calls.entries.as_mut_slice(), &options)?;
+    let lines = account::lines(heap, &calls, &page, &options)?;
     let account = account::of(heap, &calls, &page, &options)?;
     show(rt, &options, lines.as_str(), &account)?;
     rt.eprint(calls.misreadings.text.as_str())?;

@@ -2,7 +2,6 @@
 use anyhow::anyhow;
 use std::env;
 
-// Kept: a flag for each option, since each is given or not, by itself, and nothing else is told of it.
 #[derive(Default, Drop)]
 pub struct Options {
     pub help: bool,
@@ -20,6 +19,7 @@ fn room_of(word: Option<String>) -> anyhow::Result<usize> {
         .ok_or_else(|| anyhow!("--room wants a number of bytes"))
 }
 
+// Kept: panel reads its own options, of which none has a number behind it, and refuses no word.
 pub(crate) fn given(rt: &HostRuntime) -> anyhow::Result<Options> {
     let mut options = Options::default();
     let mut words = env::args(rt)?.skip(1);

@@ -1,5 +1,4 @@
 // The page of a record: every call is made on it, and it is closed.
-use crate::calls::Numbered;
 use crate::options::Options;
 use armv7::{Call, Instruction};
 use display::visit_inst;
@@ -15,8 +14,6 @@ pub struct Printed {
     pub text: String,
     pub marks: Vec<Mark>,
     pub count: u64,
-    // Each call, with the page's answer.
-    pub entries: Vec<Entry>,
 }
 
 // The longest line has 285 bytes, and 130 marks.
@@ -50,39 +47,32 @@ fn marks_of(call: &Call) -> usize {
 }
 
 // The room that all calls take together.
-fn room_for<F: Fn(&Call) -> usize>(calls: &[Numbered], of: F) -> usize
+fn room_for<F: Fn(&Call) -> usize>(entries: &[Entry], of: F) -> usize
     requires { (f : _) (call : _) → F.pre f call }
 {
-    calls
+    entries
         .iter()
-        .map(|numbered| of(&numbered.call))
+        .map(|entry| of(&entry.call))
         .fold(0, usize::saturating_add)
 }
 
 // Makes every call on a page with the room that was asked for, or with room for all of them.
 pub(crate) fn on_page(
     heap: Global,
-    calls: &[Numbered],
+    entries: &mut [Entry],
     options: &Options,
 ) -> Result<Printed, AllocError> {
-    let bytes = options.room.unwrap_or_else(|| room_for(calls, bytes_of));
+    let bytes = options.room.unwrap_or_else(|| room_for(entries, bytes_of));
     let edges = if options.marks {
-        room_for(calls, marks_of)
+        room_for(entries, marks_of)
     } else {
         0
     };
-    let mut entries: Vec<Entry> = calls
-        .iter()
-        .map(|numbered| Entry {
-            call: numbered.call,
-            answer: Ok(0),
-        })
-        .collect(heap)?;
     let mut memory = vec![in heap; 0u8; bytes]?;
     let mut marks = vec![in heap; Mark::BLANK; edges]?;
     let closed = run(
         MarkSink::new(memory.as_mut_slice(), marks.as_mut_slice()),
-        entries.as_mut_slice(),
+        entries,
     );
     let count = closed.count();
     let (len, kept) = closed.end().end();
@@ -92,6 +82,5 @@ pub(crate) fn on_page(
         text: Characters(memory.as_slice()).to_string(heap)?,
         marks,
         count,
-        entries,
     })
 }

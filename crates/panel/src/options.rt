@@ -1,7 +1,6 @@
 // What the program was asked for.
 use std::env;
 
-// Kept: a flag for each option, since each is given or not, by itself, and nothing else is told of it.
 #[derive(Default, Drop)]
 pub struct Options {
     pub help: bool,
@@ -9,6 +8,7 @@ pub struct Options {
     pub file: Option<String>,
 }
 
+// Kept: page_panel reads its own options, of which one has a number behind it, and refuses one that is not known.
 pub(crate) fn given(rt: &HostRuntime) -> anyhow::Result<Options> {
     let mut options = Options::default();
     for word in env::args(rt)?.skip(1) {

@@ -13,7 +13,7 @@ use std::str;
 const OPERANDS: usize = 4;
 
 // The shift word that the original takes the number for: the low twelve bits, and bit 7 unset where a register shifts.
-// Kept: RegShift::word reads a shift word, and this number is none.
+// Kept: how the original reads a number, apart from RegShift::word: no RegShift is made of a number that is no shift word.
 fn shift_word_in(number: u16) -> u16 {
     let low = number % 4096;
     if low / 16 % 2 == 1 && low / 128 % 2 == 1 {

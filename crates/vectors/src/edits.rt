@@ -35,9 +35,9 @@ fn zero_shift(shift: RegShift) -> Option<(&'static [u8], &'static [u8], Differen
 
 fn shift_in(operand: Operand) -> Option<RegShift> {
     match operand {
-        Operand::RegShift(shift) => Some(shift),
-        Operand::RegDerefPostindexRegShift(_, shift, _, _) => Some(shift),
-        Operand::RegDerefPreindexRegShift(_, shift, _, _) => Some(shift),
+        Operand::RegShift(shift)
+        | Operand::RegDerefPostindexRegShift(_, shift, _, _)
+        | Operand::RegDerefPreindexRegShift(_, shift, _, _) => Some(shift),
         _ => None,
     }
 }

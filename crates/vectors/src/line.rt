@@ -19,17 +19,17 @@ pub struct Stored<'a> {
 }
 
 // Bytes that are shown as the stored answers have them.
+// Kept: beside misreading's form of bytes, which shows a backslash as it is: a stored answer writes it by its number too.
 #[derive(Clone, Copy)]
 struct Text<'a>(&'a [u8]);
 
 impl fmt::Display for Text<'_> {
     fn fmt<W: fmt::Write>(&self, f: &mut fmt::Formatter<W>) -> fmt::Result {
         f.write_str("= ")?;
-        for byte in self.0 {
-            if *byte < 32 || *byte > 126 || *byte == b'\\' {
-                write!(f, "\\x{byte:02x}")?;
-            } else {
-                f.write_char(char::from(*byte))?;
+        for b in self.0 {
+            match *b {
+                b @ b' '..=b'~' if b != b'\\' => f.write_char(char::from(b))?,
+                b => write!(f, "\\x{b:02x}")?,
             }
         }
         Ok(())
