@@ -5,6 +5,7 @@ use page::Entry;
 use std::alloc::{AllocError, Global};
 use wording::Misreadings;
 
+// Kept: the lines stand beside the entries, since `run` takes a slice of entries alone.
 #[derive(Drop)]
 pub struct Calls {
     // The line that each call stands on.
