@@ -1,6 +1,13 @@
-use Rattle.std.proofs.Common.{◌++◌, rules}
-use Rattle.lines.specs.Forms.{suffix_text, block_letters}
+use Rattle.display.proofs.Words.{in_word, in_word_stop}
 use Rattle.display.proofs.word.write_it_word.Goals as goal
 
+pub returns-in_err-write_it_mnemonic : goal.returns-in_err-write_it_mnemonic
+returns-in_err-write_it_mnemonic g c =
+    let start = c.span_start_opcode.ensures in
+    in_word_stop g.T.DisplaySink.laws _ c.from_residual.result c.in_err-write_it_mnemonic.field-0.0 start.after start.rest c.in_err-write_it_mnemonic.ensures c.from_residual.ensures.1
+
 pub returns : goal.returns
-returns g c = c.in_opcode_span.ensures (c.args.name.now ++ (suffix_text c.args.suffix ++ block_letters c.args.block)) (λ s r t e. search rules)
+returns g c =
+    let start = c.span_start_opcode.ensures in
+    let end = c.span_end_opcode.ensures in
+    in_word g.T.DisplaySink.laws _ start.after start.rest c.in_ok-write_it_mnemonic.ensures end.after end.rest
