@@ -115,7 +115,7 @@ impl DisplaySink for CellSink<'_> {
         paint(self.cells, &mut self.len, self.ink, piece)
     }
 
-    // Kept: each call names again what its trait asks, with inks and ink, which its users read by name.
+    // Kept: a call with clauses of its own names its trait's again, beside inks and ink, by which its users go (docs/CELLS.md).
     fn span_start_opcode(&mut self)
         ensures after { cell_meaning self.new ≡ marked Start Opcode (cell_meaning self.old) }
         ensures rest { CellKept self.old self.new }

@@ -46,7 +46,7 @@ impl Expected {
 
 // What is said of the line with this number: where it cannot be read, what was expected there and what was found, of which
 // a byte that is not printable is told by its number.
-// Kept: bytes, since record says the same of what need be no text.
+// Kept: bytes in place of a Display: `message_showing` makes record's message too, of what need be no text.
 pub fn message(heap: Global, line: u64, misread: &Misread<'_>) -> Result<Vec<u8>, AllocError>
     ensures text { IfOk result (λ v. v.items ≡ message_of line misread.now) }
 {

@@ -187,7 +187,8 @@ impl Part for bool {
     }
 }
 
-// Kept: three widths by hand, since each has its own largest number and words for what was expected, and all they share is one call.
+// Kept: a width each by hand, here and as `Numbered`, since each has its own largest number, and here its own words for what was
+// expected.
 impl Part for u8 {
     ghost parser = { number AnyCode 255 };
 
