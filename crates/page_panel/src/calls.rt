@@ -32,7 +32,7 @@ impl Calls {
             Ok(Some(call)) => self.add(number, call),
             Err(misread) => {
                 let told = message(heap, number, &misread)?;
-                self.misreadings.add(told.as_slice())
+                self.misreadings.add(heap, told.as_slice())
             }
         }
     }

@@ -63,7 +63,7 @@ impl Account {
             Ok(Some(call)) => self.call(number, &call),
             Err(misread) => {
                 let told = message(heap, number, &misread)?;
-                self.misreadings.add(told.as_slice())
+                self.misreadings.add(heap, told.as_slice())
             }
         }
     }

@@ -105,8 +105,8 @@ mod tests {
     #[test]
     fn misreadings(rt: HostRuntime) -> Result<(), Fail> {
         let mut misreadings = Misreadings::none(rt.alloc());
-        misreadings.add(b"line 1")?;
-        misreadings.add(&[b'a', 0xe9])?;
+        misreadings.add(rt.alloc(), b"line 1")?;
+        misreadings.add(rt.alloc(), &[b'a', 0xe9])?;
         assert_eq!(rt; misreadings.text.as_str(), "line 1\naé\n");
         assert_eq!(rt; misreadings.count, 2);
         Ok(())

@@ -4,7 +4,6 @@ ghost use Rattle.wording.specs.Words.{characters};
 
 use crate::bytes::Characters;
 use std::alloc::{AllocError, Global};
-use std::fmt::Write;
 
 // The messages, each on a line of its own, and how many there are.
 #[derive(Drop)]
@@ -25,13 +24,14 @@ impl Misreadings {
         }
     }
 
-    // One message more.
-    pub fn add(&mut self, message: &[u8]) -> Result<(), AllocError>
+    // One message more, or nothing changed where memory is short.
+    pub fn add(&mut self, heap: Global, message: &[u8]) -> Result<(), AllocError>
         ensures text { OnOk result (string_bytes self.new.text ≡ string_bytes self.old.text ++ (characters message.now ++ codes "\n")) }
         ensures count { OnOk result (self.new.count ≡ min (self.old.count + 1) (2 ^ 64 - 1)) }
-        ensures uncounted { OnErr result (self.new.count ≡ self.old.count) }
+        ensures unchanged { OnErr result ((string_bytes self.new.text ≡ string_bytes self.old.text) × (self.new.count ≡ self.old.count)) }
     {
-        writeln!(self.text, "{}", Characters(message))?;
+        let line = format!(in heap; "{}\n", Characters(message))?;
+        self.text.push_str(line.as_str())?;
         self.count = self.count.saturating_add(1);
         Ok(())
     }
