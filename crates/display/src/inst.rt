@@ -6,12 +6,15 @@ ghost use Rattle.lines.specs.Admission.{refused};
 ghost use Rattle.lines.specs.Forms.{parts_of};
 ghost use Rattle.lines.specs.Lines.{line_of, line};
 
+use crate::operands::write_operands;
 use crate::rows::write_rows;
-use crate::word::write_form_word;
+use crate::word::{write_form_word, write_own_word};
 use armv7::{Fault, Instruction};
-use lines::{Form, admit};
+use lines::{Form, Reached, admit};
 use sink::DisplaySink;
 
+// Not inline: by itself, it does not burden the lines that are nothing but operands.
+#[inline(never)]
 fn write_line<T: DisplaySink>(
     form: Form<'_>,
     instruction: &Instruction,
@@ -23,10 +26,27 @@ fn write_line<T: DisplaySink>(
     write_rows(form, out)
 }
 
+// The line of an instruction that shows its own operands.
+#[inline(always)]
+fn write_plain<T: DisplaySink>(
+    reached: Reached<'_>,
+    instruction: &Instruction,
+    out: &mut T,
+) -> Result<(), Fault>
+    ensures { Printed T.meaning T.kept (line_of (parts_of (Form.Plain reached.entry) instruction.now)) out.old (outcome result) out.new }
+{
+    write_own_word(instruction, out)?;
+    write_operands(reached, out)
+}
+
 // Prints the line of an instruction that is not refused to a sink, as much of it as there is room for.
+// Kept: most lines by themselves, which are nothing but operands: so their form is never put together (docs/SPEED.md).
+#[inline(always)]
 pub fn visit_inst<T: DisplaySink>(instruction: &Instruction, out: &mut T) -> Result<(), Fault>
     ensures printed_or_refused { PrintedUnless T.meaning T.kept (refused instruction.now) (line instruction.now) out.old (outcome result) out.new }
 {
-    let form = admit(instruction)?;
-    write_line(form, instruction, out)
+    match admit(instruction)? {
+        Form::Plain(reached) => write_plain(reached, instruction, out),
+        form => write_line(form, instruction, out),
+    }
 }

@@ -13,6 +13,7 @@ use text::write_text;
 use writer::write_operand;
 
 // The operands, each behind a comma.
+#[inline(always)]
 pub(crate) fn write_followed<T: DisplaySink>(reached: Reached<'_>, out: &mut T) -> Result<(), Fault>
     ensures { Printed T.meaning T.kept (followed (map operand_items reached.entry.operands.now)) out.old (outcome result) out.new }
 {
@@ -24,6 +25,7 @@ pub(crate) fn write_followed<T: DisplaySink>(reached: Reached<'_>, out: &mut T) 
 }
 
 // The operands, with commas between them.
+#[inline(always)]
 pub(crate) fn write_operands<T: DisplaySink>(reached: Reached<'_>, out: &mut T) -> Result<(), Fault>
     ensures { Printed T.meaning T.kept (behind_word (map operand_items reached.entry.operands.now)) out.old (outcome result) out.new }
 {

@@ -1,11 +1,12 @@
 // The word of a line: the mnemonic with what stands behind it, in an opcode span.
 ghost use Rattle.std.specs.Prelude.{◌≡◌, ◌++◌};
 ghost use Rattle.armv7.specs.Conditions.{condition_number as number_of};
+ghost use Rattle.opcode.specs.Names.{name_of};
 ghost use Rattle.sink.specs.Items.{text_items};
 ghost use Rattle.sink.specs.Outcome.{outcome};
 ghost use Rattle.sink.specs.Printed.{Printed};
 ghost use Rattle.lines.specs.Forms.{suffix_text, block_letters, word_of};
-ghost use Rattle.lines.specs.Lines.{condition_suffix, word_items, it_letter};
+ghost use Rattle.lines.specs.Lines.{condition_suffix, suffix as suffix_of, word_items, it_letter};
 
 use armv7::{ConditionCode, Fault, Instruction};
 use lines::{Form, ItBlock, Suffix, letter_count, stack_word};
@@ -13,6 +14,7 @@ use sink::DisplaySink;
 use text::{write_flagged, write_text};
 
 // The condition's letters, one after the other; AL has none.
+#[inline(always)]
 fn write_condition<T: DisplaySink>(condition: ConditionCode, out: &mut T) -> Result<(), Fault>
     ensures { Printed T.meaning T.kept (text_items (condition_suffix condition)) out.old (outcome result) out.new }
 {
@@ -26,6 +28,7 @@ fn write_condition<T: DisplaySink>(condition: ConditionCode, out: &mut T) -> Res
     }
 }
 
+#[inline(always)]
 fn write_suffix<T: DisplaySink>(suffix: Suffix, out: &mut T) -> Result<(), Fault>
     ensures { Printed T.meaning T.kept (text_items (suffix_text suffix)) out.old (outcome result) out.new }
 {
@@ -34,6 +37,7 @@ fn write_suffix<T: DisplaySink>(suffix: Suffix, out: &mut T) -> Result<(), Fault
     write_flagged(out, suffix.w, b".w")
 }
 
+#[inline(always)]
 fn write_mnemonic<T: DisplaySink>(name: &[u8], suffix: Suffix, out: &mut T) -> Result<(), Fault>
     ensures { Printed T.meaning T.kept (text_items (name.now ++ suffix_text suffix)) out.old (outcome result) out.new }
 {
@@ -42,6 +46,7 @@ fn write_mnemonic<T: DisplaySink>(name: &[u8], suffix: Suffix, out: &mut T) -> R
 }
 
 // A mnemonic with its suffix.
+#[inline(always)]
 pub fn write_word<T: DisplaySink>(name: &[u8], suffix: Suffix, out: &mut T) -> Result<(), Fault>
     ensures printed { Printed T.meaning T.kept (word_items (name.now ++ suffix_text suffix)) out.old (outcome result) out.new }
 {
@@ -107,6 +112,17 @@ fn write_it_word<T: DisplaySink>(
     Ok(())
 }
 
+// The opcode's name with all that stands behind it.
+#[inline(always)]
+pub(crate) fn write_own_word<T: DisplaySink>(
+    instruction: &Instruction,
+    out: &mut T,
+) -> Result<(), Fault>
+    ensures { Printed T.meaning T.kept (word_items (name_of instruction.now.opcode ++ suffix_of instruction.now)) out.old (outcome result) out.new }
+{
+    write_word(instruction.opcode.name(), Suffix::of(instruction), out)
+}
+
 // The word of an instruction, by its form.
 pub(crate) fn write_form_word<T: DisplaySink>(
     form: Form<'_>,
@@ -124,6 +140,6 @@ pub(crate) fn write_form_word<T: DisplaySink>(
         Form::Stack(block) => write_word(stack_word(block.transfer.load), suffix, out),
         Form::One { load, .. } => write_word(stack_word(load), suffix, out),
         Form::It(block) => write_it_word(name, suffix, block, out),
-        _ => write_word(name, suffix, out),
+        _ => write_own_word(instruction, out),
     }
 }

@@ -47,6 +47,7 @@ pub enum Kind {
     Plain,
 }
 
+#[inline(always)]
 fn coprocessor(suffixes: Suffixes, coprocessor: u8, second: Option<u8>, third: Option<u8>) -> Kind
     ensures { form_of result ≡ of_coprocessor (suffixes_of suffixes) (coprocessor ∷ optional second) (optional third) }
 {
@@ -58,6 +59,7 @@ fn coprocessor(suffixes: Suffixes, coprocessor: u8, second: Option<u8>, third: O
     })
 }
 
+#[inline(always)]
 pub fn kind_by(opcode: Opcode) -> Kind
     ensures form { form_of result ≡ form opcode }
 {

@@ -16,12 +16,14 @@ use crate::operands::{admit_operand, admit_reached, is_nothing};
 use armv7::{ConditionCode, Fault, Instruction, Operand, Place};
 use kind::{Codes, Kind, Transfer, kind_by};
 
+#[inline(always)]
 fn admit_plain(instruction: &Instruction) -> Result<Form<'_>, Fault>
     ensures { AdmittedAs plain instruction.now result }
 {
     Ok(Form::Plain(admit_reached(&instruction.operands)?))
 }
 
+#[inline(always)]
 fn admit_coprocessor(codes: Codes, instruction: &Instruction) -> Result<Form<'_>, Fault>
     ensures { AdmittedAs (coprocessor (suffixes_of codes.suffixes) (codes.coprocessor ∷ optional codes.second) (optional codes.third)) instruction.now result }
 {
@@ -29,6 +31,7 @@ fn admit_coprocessor(codes: Codes, instruction: &Instruction) -> Result<Form<'_>
     Ok(Form::Coprocessor(codes, admit_reached(&instruction.operands)?))
 }
 
+#[inline(always)]
 fn admit_block(transfer: Transfer, instruction: &Instruction) -> Result<Form<'_>, Fault>
     ensures { AdmittedAs (block transfer.load transfer.add transfer.pre transfer.wback transfer.user) instruction.now result }
 {
@@ -55,6 +58,7 @@ fn admit_block(transfer: Transfer, instruction: &Instruction) -> Result<Form<'_>
     }
 }
 
+#[inline(always)]
 fn admit_one(load: bool, instruction: &Instruction) -> Result<Form<'_>, Fault>
     ensures { AdmittedAs (one_form load) instruction.now result }
 {
@@ -66,6 +70,7 @@ fn admit_one(load: bool, instruction: &Instruction) -> Result<Form<'_>, Fault>
     }
 }
 
+#[inline(always)]
 fn admit_it(instruction: &Instruction) -> Result<Form<'_>, Fault>
     ensures { AdmittedAs it instruction.now result }
 {
@@ -87,6 +92,7 @@ fn admit_it(instruction: &Instruction) -> Result<Form<'_>, Fault>
 }
 
 // The mode that a CPS changes to, if it has one.
+#[inline(always)]
 fn admit_mode(operand: Operand) -> Result<Option<u16>, Fault>
     ensures refusal { outcome result ≡ reached_refused 1 (operand ∷ []) }
     ensures value { IfOk result (λ m. m ≡ mode_of (shape operand)) }
@@ -101,6 +107,7 @@ fn admit_mode(operand: Operand) -> Result<Option<u16>, Fault>
     }
 }
 
+#[inline(always)]
 fn admit_cps(instruction: &Instruction) -> Result<Form<'_>, Fault>
     ensures { AdmittedAs cps instruction.now result }
 {
@@ -115,6 +122,7 @@ fn admit_cps(instruction: &Instruction) -> Result<Form<'_>, Fault>
     Ok(Form::Cps { flags, mode })
 }
 
+#[inline(always)]
 fn admit_setend(instruction: &Instruction) -> Result<Form<'_>, Fault>
     ensures { AdmittedAs setend instruction.now result }
 {
@@ -127,6 +135,7 @@ fn admit_setend(instruction: &Instruction) -> Result<Form<'_>, Fault>
 
 // What the line of the instruction shows, or why it has none.
 #[tactic(auto, unfolding(crate::specs::Admission::refused))]
+#[inline(always)]
 pub fn admit(instruction: &Instruction) -> Result<Form<'_>, Fault>
     ensures refusal { outcome result ≡ refused instruction.now }
     ensures shown { IfOk result (λ f. parts_of f instruction.now ≡ parts instruction.now) }

@@ -9,6 +9,7 @@ use kind::Transfer;
 
 // The register of a load that is a pop, or of a store that is a push.
 // Kept: guards for base 13, offset 4 and write-back, by a rule of the project (docs/DECISIONS.md).
+#[inline(always)]
 pub fn stack_register(load: bool, operands: &[Operand; 4]) -> Option<Reg>
     ensures register { result ≡ one_on_stack load operands.now }
 {
@@ -38,6 +39,7 @@ pub fn stack_register(load: bool, operands: &[Operand; 4]) -> Option<Reg>
 }
 
 // Whether a block transfer is a pop or a push.
+#[inline(always)]
 pub fn stacks(transfer: Transfer, base: Reg, wback: bool) -> bool
     ensures value { result ≡ on_stack transfer base wback }
 {

@@ -12,6 +12,7 @@ use armv7::{Fault, Operand, Place};
 use visitor::admit_distance;
 
 // Is the operand missing?
+#[inline(always)]
 pub fn is_nothing(operand: Operand) -> bool
     ensures value { result ≡ no_operand_there (shape operand) }
 {
@@ -19,6 +20,7 @@ pub fn is_nothing(operand: Operand) -> bool
 }
 
 // What an operand by itself is refused for.
+#[inline(always)]
 pub(crate) fn admit_operand(operand: Operand, place: Place) -> Result<(), Fault>
     ensures { outcome result ≡ operand_refused (place_index place) operand }
 {
@@ -32,6 +34,7 @@ pub(crate) fn admit_operand(operand: Operand, place: Place) -> Result<(), Fault>
 }
 
 // The operands before the first Nothing.
+#[inline(always)]
 pub(crate) fn admit_reached(operands: &[Operand; 4]) -> Result<Reached<'_>, Fault>
     ensures refusal { outcome result ≡ reached_refused 0 (all_of operands.now) }
     ensures value { IfOk result (λ r. r.operands.now ≡ reached (all_of operands.now)) }

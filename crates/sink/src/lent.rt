@@ -1,6 +1,6 @@
 // Lent memory of which a part is in use.
 // Kept: tried as a struct inside the sink; `end`, which takes the sink by value, was then not covered by a proof.
-ghost use Rattle.std.specs.Prelude.{◌≡◌, ◌+◌, ◌-◌, ◌≤◌, min, cond, [], ◌∷◌, ◌++◌, length, take, nat_lt};
+ghost use Rattle.std.specs.Prelude.{◌≡◌, ◌+◌, ◌-◌, ◌<◌, ◌≤◌, min, cond, [], ◌∷◌, ◌++◌, length, take, nat_lt};
 ghost use Rattle.sink.specs.Lent.{Filled};
 ghost use Rattle.sink.specs.Outcome.{outcome, full_below};
 
@@ -17,10 +17,9 @@ fn copy<T: Copy>(memory: &mut [T], used: usize, piece: &[T])
     memory[used..used + piece.len()].copy_from_slice(piece);
 }
 
-// Puts a piece that there is room for behind the first `used` elements, and counts it to them.
-// Kept: a short piece element by element, since with one copy for all lengths a printer misses its bar of speed (docs/SPEED.md).
+// Puts a piece that there is room for behind the first `used` elements, and counts it to them: up to four elements one by one.
 #[inline(always)]
-fn place<T: Copy>(memory: &mut [T], used: &mut usize, piece: &[T])
+fn put<T: Copy>(memory: &mut [T], used: &mut usize, piece: &[T])
     requires { used.old + length piece.now ≤ length memory.old }
     ensures count { used.new ≡ used.old + length piece.now }
     ensures text { take used.new memory.new ≡ take used.old memory.old ++ piece.now }
@@ -49,8 +48,42 @@ fn place<T: Copy>(memory: &mut [T], used: &mut usize, piece: &[T])
     *used = start + piece.len();
 }
 
+// The same of a piece of more than four elements: up to eight, four by four.
+#[inline(never)]
+fn put_long<T: Copy>(memory: &mut [T], used: &mut usize, piece: &[T])
+    requires long { 4 ≤ length piece.now }
+    requires room { used.old + length piece.now ≤ length memory.old }
+    ensures count { used.new ≡ used.old + length piece.now }
+    ensures text { take used.new memory.new ≡ take used.old memory.old ++ piece.now }
+    ensures rest { Filled memory.old used.old memory.new used.new }
+{
+    if piece.len() > 8 {
+        return put(memory, used, piece);
+    }
+    put(memory, used, &piece[..4]);
+    put(memory, used, &piece[4..]);
+}
+
+// Puts as much of a longer piece as there is room for, and refuses it.
+#[cold]
+#[inline(never)]
+fn fill<T: Copy>(memory: &mut [T], used: &mut usize, piece: &[T]) -> Result<(), Fault>
+    requires full { length memory.old < used.old + length piece.now }
+    requires within { used.old ≤ length memory.old }
+    ensures count { used.new ≡ length memory.old }
+    ensures text { take used.new memory.new ≡ take used.old memory.old ++ take (length memory.old - used.old) piece.now }
+    ensures rest { Filled memory.old used.old memory.new used.new }
+    ensures answer { outcome result ≡ full_below (length memory.old - used.old) (length piece.now) }
+{
+    let left = memory.len() - *used;
+    copy(memory, *used, &piece[..left]);
+    *used = memory.len();
+    Err(Fault::SinkFull)
+}
+
 // Puts as much of the piece as there is room for behind the first `used` elements, counts it to them, and refuses a piece that is
 // longer.
+// Kept: short pieces by themselves, since with one copy for all lengths a printer misses its bar of speed (docs/SPEED.md).
 #[inline(always)]
 pub(crate) fn append<T: Copy>(memory: &mut [T], used: &mut usize, piece: &[T]) -> Result<(), Fault>
     requires { used.old ≤ length memory.old }
@@ -59,13 +92,14 @@ pub(crate) fn append<T: Copy>(memory: &mut [T], used: &mut usize, piece: &[T]) -
     ensures rest { Filled memory.old used.old memory.new used.new }
     ensures answer { outcome result ≡ full_below (length memory.old - used.old) (length piece.now) }
 {
-    let left = memory.len() - *used;
-    if piece.len() > left {
-        copy(memory, *used, &piece[..left]);
-        *used = memory.len();
-        return Err(Fault::SinkFull);
+    if piece.len() > memory.len() - *used {
+        return fill(memory, used, piece);
     }
-    place(memory, used, piece);
+    if piece.len() > 4 {
+        put_long(memory, used, piece);
+    } else {
+        put(memory, used, piece);
+    }
     Ok(())
 }
 

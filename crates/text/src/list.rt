@@ -10,6 +10,7 @@ use armv7::{Fault, Reg};
 use sink::DisplaySink;
 
 // A register, before a comma if more follow.
+#[inline(always)]
 fn write_next<T: DisplaySink>(out: &mut T, reg: Reg, more: bool) -> Result<(), Fault>
     ensures { Printed T.meaning T.kept (reg_items reg ++ text_items (flagged more (codes ", "))) out.old (outcome result) out.new }
 {
@@ -18,6 +19,7 @@ fn write_next<T: DisplaySink>(out: &mut T, reg: Reg, more: bool) -> Result<(), F
 }
 
 // The registers whose bits are set, with commas between them.
+#[inline(always)]
 fn write_chosen<T: DisplaySink>(out: &mut T, mask: u16) -> Result<(), Fault>
     ensures { Printed T.meaning T.kept (joined (map reg_items (chosen all_regs mask))) out.old (outcome result) out.new }
 {
@@ -31,6 +33,7 @@ fn write_chosen<T: DisplaySink>(out: &mut T, mask: u16) -> Result<(), Fault>
     Ok(())
 }
 
+#[inline(always)]
 pub fn write_list<T: DisplaySink>(out: &mut T, mask: u16) -> Result<(), Fault>
     ensures printed { Printed T.meaning T.kept (list_items mask) out.old (outcome result) out.new }
 {

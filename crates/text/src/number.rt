@@ -12,6 +12,7 @@ use sink::DisplaySink;
 const HEX_DIGITS: [u8; 16] = *b"0123456789abcdef";
 
 // Puts `0x` before the start of the digits, and answers where that begins.
+#[inline(always)]
 fn mark_base(memory: &mut [u8; 10], start: usize) -> usize
     requires low { 2 ≤ start }
     requires high { start ≤ 10 }
@@ -25,6 +26,7 @@ fn mark_base(memory: &mut [u8; 10], start: usize) -> usize
 
 // Fills the end of the memory with `0x` and the last eight digits of the number in base 16, without leading zeros, and answers
 // where that begins.
+#[inline(always)]
 fn fill_prefixed(memory: &mut [u8; 10], number: u64) -> usize
     ensures range { result ≤ 10 }
     ensures value { drop result memory.new ≡ prefixed 8 number }
@@ -41,6 +43,7 @@ fn fill_prefixed(memory: &mut [u8; 10], number: u64) -> usize
 }
 
 // `0x` and the last eight digits of the number in base 16, without leading zeros.
+#[inline(always)]
 fn write_last_digits<T: DisplaySink>(out: &mut T, number: u64) -> Result<(), Fault>
     ensures { Printed T.meaning T.kept (text_items (prefixed 8 number)) out.old (outcome result) out.new }
 {
@@ -50,6 +53,7 @@ fn write_last_digits<T: DisplaySink>(out: &mut T, number: u64) -> Result<(), Fau
 }
 
 // `0x` and the digits of the number in base 16, without leading zeros: for every width that it fits, the same text.
+#[inline(always)]
 pub fn write_prefixed<T: DisplaySink>(out: &mut T, number: u32) -> Result<(), Fault>
     ensures printed { (k : ℕ) → 0 < k → number < 16 ^ k → Printed T.meaning T.kept (text_items (prefixed k number)) out.old (outcome result) out.new }
 {
@@ -57,6 +61,7 @@ pub fn write_prefixed<T: DisplaySink>(out: &mut T, number: u32) -> Result<(), Fa
 }
 
 // The digits of the number, in decimal.
+#[inline(always)]
 pub fn write_decimal<T: DisplaySink>(out: &mut T, number: u8) -> Result<(), Fault>
     ensures printed { Printed T.meaning T.kept (text_items (decimal number)) out.old (outcome result) out.new }
 {
@@ -67,6 +72,7 @@ pub fn write_decimal<T: DisplaySink>(out: &mut T, number: u8) -> Result<(), Faul
 }
 
 // A branch distance, back or on, in steps of the scale.
+#[inline(always)]
 pub fn write_branch<T: DisplaySink>(out: &mut T, scale: u8, distance: i32) -> Result<(), Fault>
     ensures printed { Printed T.meaning T.kept (text_items (branch_text scale distance)) out.old (outcome result) out.new }
 {

@@ -20,6 +20,7 @@ pub fn write_text<T: DisplaySink>(out: &mut T, piece: &[u8]) -> Result<(), Fault
 }
 
 // A text that is written only under a flag. Without it nothing is written, which an `Ok` says more plainly than an empty text.
+#[inline(always)]
 pub fn write_flagged<T: DisplaySink>(out: &mut T, flag: bool, text: &[u8]) -> Result<(), Fault>
     ensures printed { Printed T.meaning T.kept (text_items (flagged flag text.now)) out.old (outcome result) out.new }
 {
@@ -27,6 +28,7 @@ pub fn write_flagged<T: DisplaySink>(out: &mut T, flag: bool, text: &[u8]) -> Re
 }
 
 // One of two texts.
+#[inline(always)]
 pub fn write_either<T: DisplaySink>(
     out: &mut T,
     flag: bool,
@@ -68,11 +70,24 @@ pub fn write_spanned<T: DisplaySink>(out: &mut T, name: &[u8]) -> Result<(), Fau
     Ok(())
 }
 
+// The name of a register that has more than two letters. Not inline, since there is but one.
+#[inline(never)]
+fn write_longer<T: DisplaySink>(out: &mut T, name: &[u8]) -> Result<(), Fault>
+    ensures { Printed T.meaning T.kept (spanned name.now) out.old (outcome result) out.new }
+{
+    write_spanned(out, name)
+}
+
+// Kept: two letters by themselves, since their length is then known where they are written, which a list is paid for (docs/SPEED.md).
 #[inline(always)]
 pub fn write_reg<T: DisplaySink>(out: &mut T, reg: Reg) -> Result<(), Fault>
     ensures printed { Printed T.meaning T.kept (reg_items reg) out.old (outcome result) out.new }
 {
-    write_spanned(out, reg.name())
+    let name = reg.name();
+    if name.len() == 2 {
+        return write_spanned(out, &name[..2]);
+    }
+    write_longer(out, name)
 }
 
 // A register in two spans.

@@ -15,6 +15,7 @@ use sink::DisplaySink;
 use text::{write_either, write_flagged, write_prefixed, write_reg, write_text};
 
 // The end of an address whose offset stands inside it.
+#[inline(always)]
 fn write_close<T: DisplaySink>(out: &mut T, wback: bool) -> Result<(), Fault>
     ensures { Printed T.meaning T.kept (text_items (codes "]" ++ bang wback)) out.old (outcome result) out.new }
 {
@@ -22,6 +23,7 @@ fn write_close<T: DisplaySink>(out: &mut T, wback: bool) -> Result<(), Fault>
 }
 
 // What stands before an offset inside the address.
+#[inline(always)]
 fn write_comma<T: DisplaySink>(out: &mut T, add: bool) -> Result<(), Fault>
     ensures { Printed T.meaning T.kept (text_items (codes ", " ++ minus add)) out.old (outcome result) out.new }
 {
@@ -29,12 +31,14 @@ fn write_comma<T: DisplaySink>(out: &mut T, add: bool) -> Result<(), Fault>
 }
 
 // What stands before a shift behind the address.
+#[inline(always)]
 fn write_past_blank<T: DisplaySink>(out: &mut T, add: bool) -> Result<(), Fault>
     ensures { Printed T.meaning T.kept (text_items (codes "], " ++ (minus add ++ codes " "))) out.old (outcome result) out.new }
 {
     write_either(out, add, b"],  ", b"], - ")
 }
 
+#[inline(always)]
 fn write_base<T: DisplaySink>(out: &mut T, base: Reg) -> Result<(), Fault>
     ensures { Printed T.meaning T.kept (text_items (codes "[") ++ reg_items base) out.old (outcome result) out.new }
 {
@@ -54,6 +58,7 @@ pub(crate) trait Offset: Copy {
 impl Offset for RegShift {
     ghost items = { λ shift add. text_items (codes ", " ++ minus add) ++ shift_items (shift_fields (shift_word shift)) };
 
+    #[inline(always)]
     fn write<T: DisplaySink>(self, out: &mut T, add: bool) -> Result<(), Fault> {
         write_comma(out, add)?;
         write_shift(out, self)
@@ -64,6 +69,7 @@ impl Offset for RegShift {
 impl Offset for u16 {
     ghost items = { λ offset add. text_items (offset_text add offset) };
 
+    #[inline(always)]
     fn write<T: DisplaySink>(self, out: &mut T, add: bool) -> Result<(), Fault> {
         if self == 0 {
             return Ok(());
@@ -76,12 +82,14 @@ impl Offset for u16 {
 impl Offset for Reg {
     ghost items = { λ offset add. text_items (codes ", " ++ minus add) ++ reg_items offset };
 
+    #[inline(always)]
     fn write<T: DisplaySink>(self, out: &mut T, add: bool) -> Result<(), Fault> {
         write_comma(out, add)?;
         write_reg(out, self)
     }
 }
 
+#[inline(always)]
 pub fn write_reg_wback<T: DisplaySink>(out: &mut T, reg: Reg, wback: bool) -> Result<(), Fault>
     ensures printed { Printed T.meaning T.kept (operand_items (RegWBack reg wback)) out.old (outcome result) out.new }
 {
@@ -89,6 +97,7 @@ pub fn write_reg_wback<T: DisplaySink>(out: &mut T, reg: Reg, wback: bool) -> Re
     write_flagged(out, wback, b"!")
 }
 
+#[inline(always)]
 pub(crate) fn write_deref<T: DisplaySink>(out: &mut T, reg: Reg) -> Result<(), Fault>
     ensures { Printed T.meaning T.kept (operand_items (RegDeref reg)) out.old (outcome result) out.new }
 {
@@ -97,6 +106,7 @@ pub(crate) fn write_deref<T: DisplaySink>(out: &mut T, reg: Reg) -> Result<(), F
 }
 
 // An address with its offset inside.
+#[inline(always)]
 pub(crate) fn write_preindex<T: DisplaySink, O: Offset>(
     out: &mut T,
     base: Reg,
@@ -112,6 +122,7 @@ pub(crate) fn write_preindex<T: DisplaySink, O: Offset>(
 }
 
 // An address with its offset behind it.
+#[inline(always)]
 pub(crate) fn write_postindex<T: DisplaySink, O: Offset>(
     out: &mut T,
     base: Reg,

@@ -169,10 +169,22 @@ impl<T: DisplaySink> OperandVisitor for DisplayingOperandVisitor<'_, T> {
     }
 }
 
-// Writes the text of the operand, or refuses it before anything is written.
-pub fn write_operand<T: DisplaySink>(out: &mut T, operand: &Operand) -> Result<(), Fault>
-    ensures printed_or_refused { PrintedUnless T.meaning T.kept (operand_refused 0 operand.now) (operand_items operand.now) out.old (outcome result) out.new }
+#[inline(never)]
+fn write_visited<T: DisplaySink>(out: &mut T, operand: &Operand) -> Result<(), Fault>
+    ensures { PrintedUnless T.meaning T.kept (operand_refused 0 operand.now) (operand_items operand.now) out.old (outcome result) out.new }
 {
     let mut visitor = DisplayingOperandVisitor { f: out };
     visit(operand, &mut visitor)
+}
+
+// Writes the text of the operand, or refuses it before anything is written.
+// Kept: a register by itself, inline and with no visit, since it is what most operands are (docs/SPEED.md).
+#[inline(always)]
+pub fn write_operand<T: DisplaySink>(out: &mut T, operand: &Operand) -> Result<(), Fault>
+    ensures printed_or_refused { PrintedUnless T.meaning T.kept (operand_refused 0 operand.now) (operand_items operand.now) out.old (outcome result) out.new }
+{
+    match *operand {
+        Operand::Reg(reg) => write_reg(out, reg),
+        _ => write_visited(out, operand),
+    }
 }

@@ -11,7 +11,8 @@ use std::process::ExitCode;
 const USAGE: &str = "\
 usage: compare held SEED COUNT VECTORS   random instructions and decoded words: texts and marks
        compare speed WORDS               times of the original and of the library
-       compare once WORDS MIX WHO N      N rounds, to be counted: WHO is original, read or print";
+       compare once WORDS MIX WHO N      N rounds, to be counted: WHO is original, read or print
+       compare record WORDS MIX          the instructions that are measured, as a record";
 
 fn main() -> ExitCode {
     answers::ask::hush_the_original();
@@ -21,6 +22,7 @@ fn main() -> ExitCode {
         ["held", seed, count, vectors] => held::run(seed, count, vectors),
         ["speed", words] => speed::run(words),
         ["once", words, mix, who, rounds] => speed::once(words, mix, who, rounds),
+        ["record", words, mix] => speed::record(words, mix),
         _ => Err(USAGE.to_string()),
     };
     match result {

@@ -91,3 +91,11 @@ pub fn once(words: &str, name: &str, who: &str, rounds: &str) -> Result<(), Stri
     eprintln!("{} lines a round", instructions.len());
     Ok(())
 }
+
+/// Tells the instructions as a record.
+pub fn record(words: &str, name: &str) -> Result<(), String> {
+    for inst in mix::named(name, words)? {
+        println!("{inst:?}");
+    }
+    Ok(())
+}
