@@ -1,7 +1,7 @@
 // The calls of a record, each with the number of its line, and what is said of lines that could not be read.
 use armv7::Call;
-use call_notation::{message, read_line};
 use page::Entry;
+use record::{Message, read_line};
 use std::alloc::{AllocError, Global};
 use wording::Misreadings;
 
@@ -31,8 +31,12 @@ impl Calls {
             Ok(None) => Ok(()),
             Ok(Some(call)) => self.add(number, call),
             Err(misread) => {
-                let told = message(heap, number, &misread)?;
-                self.misreadings.add(heap, told.as_slice())
+                let message = Message {
+                    line: number,
+                    misread,
+                };
+                self.misreadings
+                    .add(heap, message.to_string(heap)?.as_str())
             }
         }
     }
