@@ -1,9 +1,9 @@
 #!/usr/bin/env python3
-"""Hands the manual lines that page_panel prints to GNU as, and compares the encoded words with the fields of the records.
+"""Hands the manual lines that panel prints to GNU as, and compares the encoded words with the fields of the records.
 
-    (cd crates/page_panel && rt run -- --help) && python3 tools/gnu-as/check.py [PANEL]
+    (cd crates/panel && rt run -- --help) && python3 tools/gnu-as/check.py [PANEL]
 
-PANEL is crates/page_panel/out/page_panel where it is not given. Needs arm-none-eabi-as and arm-none-eabi-objcopy (Debian: binutils-arm-none-eabi).
+PANEL is crates/panel/out/panel where it is not given. Needs arm-none-eabi-as and arm-none-eabi-objcopy (Debian: binutils-arm-none-eabi).
 Ends with status 1 if a word has other fields than its record, or if a record has no manual line. The lines that the assembler
 refuses are counted by its reason, and written with it to target/gnu-as/refused.txt.
 """
@@ -65,7 +65,7 @@ def cases():
 
 
 def manual_lines(panel, records):
-    """What page_panel spells beside each record, by the record's line."""
+    """What panel spells beside each record, by the record's line."""
     given = WORK / "records.txt"
     given.write_text("\n".join(records) + "\n")
     told = subprocess.run([panel, "--manual", str(given)], stdout=subprocess.PIPE, text=True, check=True).stdout
@@ -107,7 +107,7 @@ def decoded(word):
 
 
 def main():
-    panel = sys.argv[1] if len(sys.argv) > 1 else str(ROOT / "crates" / "page_panel" / "out" / "page_panel")
+    panel = sys.argv[1] if len(sys.argv) > 1 else str(ROOT / "crates" / "panel" / "out" / "panel")
     WORK.mkdir(parents=True, exist_ok=True)
     records, fields = zip(*cases())
     spelt = manual_lines(panel, records)

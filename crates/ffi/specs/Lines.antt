@@ -7,7 +7,7 @@ use Rattle.armv7.specs.Faults.{Refusal, refused_with, no_operand}
 use Rattle.notation.specs.Parsing.{Stop}
 use Rattle.notation.specs.Places.{Stands}
 use Rattle.notation.specs.Tokens.{tokens, first}
-use Rattle.call_notation.specs.Calls.{reading}
+use Rattle.record.specs.Calls.{reading}
 use Rattle.sink.specs.Items.{Item, bytes, fitting}
 use Rattle.sink.specs.Outcome.{full_below}
 use Rattle.lines.specs.Admission.{refused}

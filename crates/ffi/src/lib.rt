@@ -7,8 +7,8 @@ ghost use Rattle.ffi.specs.Lines.{ColumnOf, asked, numbered, over, TellsRefusal,
 ghost use Rattle.ffi.specs.Marks.{code_of_edge, code_of_span, mark_code, numbers_in, numbers_shown};
 
 use armv7::{Call, Fault, Instruction};
-use call_notation::read_line;
 use display::visit_inst;
+use record::read_line;
 use sink::{Edge, Mark, MarkSink, Span, TextSink};
 
 // What came of a call.

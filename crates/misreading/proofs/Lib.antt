@@ -1,2 +1,1 @@
-pub mod Appends
 pub mod Shown

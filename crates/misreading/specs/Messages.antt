@@ -39,12 +39,16 @@ shown bs = flat_map shown_byte bs
 
 abbrev pub refusal_text : Option Fault → List ℕ
 refusal_text None = []
-refusal_text (Some f) = codes " (refusal " ++ (decimal (refusal f).number ++ (codes ": " ++ (fault_word f ++ codes ")")))
+refusal_text (Some f) = codes " (refusal " ++ (decimal (refusal f).number ++ (codes ": " ++ (shown (fault_word f) ++ codes ")")))
 
--- with this text for what was found
-abbrev pub message_with : ℕ → Misread → List ℕ → List ℕ
-message_with line m found =
-    codes "line " ++ (decimal line ++ (codes ", column " ++ (decimal m.column ++ (codes ": " ++ (expected_text m.expected ++ (codes " was expected, found " ++ (found ++ refusal_text m.refusal)))))))
-
+-- where a line cannot be read, what was expected there, what was found, and the refusal of a number
 abbrev pub message_of : ℕ → Misread → List ℕ
-message_of line m = message_with line m (shown (or_at_end m.found.now))
+message_of line m =
+    codes "line "
+    ++ (decimal line
+    ++ (codes ", column "
+    ++ (decimal m.column
+    ++ (codes ": "
+    ++ (shown (expected_text m.expected)
+    ++ (codes " was expected, found "
+    ++ (shown (or_at_end m.found.now) ++ refusal_text m.refusal)))))))

@@ -6,5 +6,5 @@ mod messages;
 mod misread;
 
 pub use given::Given;
-pub use messages::{message, message_showing, or_end};
+pub use messages::Message;
 pub use misread::{Expected, Misread};

@@ -1,16 +1,15 @@
 // The message on a line that cannot be read.
-ghost use Rattle.std.specs.Prelude.{◌≡◌, ◌++◌, IfOk, OnOk, Some};
-ghost use Rattle.misreading.specs.Messages.{or_at_end, expected_text, refusal_text, shown, message_with, message_of};
+ghost use Rattle.std.specs.Prelude.{◌≡◌, Some};
+ghost use Rattle.misreading.specs.Messages.{or_at_end, expected_text, shown, refusal_text, message_of};
 
 use crate::misread::{Expected, Misread};
 use armv7::Fault;
-use std::alloc::{AllocError, Global};
 use std::fmt;
 use std::fmt::Write;
 
 // A token, or that the line ends there.
-pub fn or_end(text: &[u8]) -> &[u8]
-    ensures text { result.now ≡ or_at_end text.now }
+fn or_end(text: &[u8]) -> &[u8]
+    ensures { result.now ≡ or_at_end text.now }
 {
     if text.is_empty() {
         b"the end of the line"
@@ -44,33 +43,48 @@ impl Expected {
     }
 }
 
-// What is said of the line with this number: where it cannot be read, what was expected there and what was found, of which
-// a byte that is not printable is told by its number.
-// Kept: bytes in place of a Display: `message_showing` makes record's message too, of what need be no text.
-pub fn message(heap: Global, line: u64, misread: &Misread<'_>) -> Result<Vec<u8>, AllocError>
-    ensures text { IfOk result (λ v. v.items ≡ message_of line misread.now) }
-{
-    let found = Printable(or_end(misread.found)).to_string(heap)?;
-    message_showing(heap, line, misread, found.as_bytes())
+// A misreading that is shown as what is said of the line with this number: where it cannot be read, what was expected there,
+// what was found, and why a number was refused. A byte that is not printable is told by its number.
+#[derive(Clone, Copy)]
+pub struct Message<'a> {
+    pub line: u64,
+    pub misread: Misread<'a>,
 }
 
-// The same with another text for what was found.
-pub fn message_showing(
-    heap: Global,
-    line: u64,
-    misread: &Misread<'_>,
-    found: &[u8],
-) -> Result<Vec<u8>, AllocError>
-    ensures text { IfOk result (λ v. v.items ≡ message_with line misread.now found.now) }
-{
-    let column = misread.column;
-    let place = format!(in heap; "line {line}, column {column}: ")?;
-    let mut text = Vec::from_slice(heap, place.as_bytes())?;
-    text.extend_from_slice(misread.expected.text())?;
-    text.extend_from_slice(b" was expected, found ")?;
-    text.extend_from_slice(found)?;
-    add_refusal(heap, &mut text, misread.refusal)?;
-    Ok(text)
+impl fmt::Display for Message<'_> {
+    ghost output = { λ message. Some (message_of message.line message.misread) };
+
+    fn fmt<W: fmt::Write>(&self, f: &mut fmt::Formatter<W>) -> fmt::Result {
+        let Message { line, misread } = *self;
+        write!(
+            f,
+            "line {line}, column {}: {} was expected, found {}{}",
+            misread.column,
+            Printable(misread.expected.text()),
+            Printable(or_end(misread.found)),
+            Refused(misread.refusal)
+        )
+    }
+}
+
+// Why a number was refused, where one was.
+#[derive(Clone, Copy)]
+struct Refused(Option<Fault>);
+
+impl fmt::Display for Refused {
+    ghost output = { λ refused. Some (refusal_text refused.0) };
+
+    fn fmt<W: fmt::Write>(&self, f: &mut fmt::Formatter<W>) -> fmt::Result {
+        let Some(fault) = self.0 else {
+            return Ok(());
+        };
+        write!(
+            f,
+            " (refusal {}: {})",
+            fault.number(),
+            Printable(fault.word())
+        )
+    }
 }
 
 // Bytes as text: one that is not printable is told by its number.
@@ -89,19 +103,4 @@ impl fmt::Display for Printable<'_> {
         }
         Ok(())
     }
-}
-
-// Says why a number was refused, where one was.
-fn add_refusal(heap: Global, text: &mut Vec<u8>, refusal: Option<Fault>) -> Result<(), AllocError>
-    ensures { OnOk result (text.new.items ≡ text.old.items ++ refusal_text refusal) }
-{
-    let Some(fault) = refusal else {
-        return Ok(());
-    };
-    let number = fault.number();
-    let opening = format!(in heap; " (refusal {number}: ")?;
-    text.extend_from_slice(opening.as_bytes())?;
-    text.extend_from_slice(fault.word())?;
-    text.extend_from_slice(b")")?;
-    Ok(())
 }

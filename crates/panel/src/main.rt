@@ -1,52 +1,58 @@
-// The panel: reads a fault record and prints its instructions, with an account of what was printed, refused and misread.
+// The panel: reads a fault record, prints it on a page, and gives an account of what was printed, refused and misread.
 #![tactic(auto)]
 
 mod account;
+mod calls;
+mod colour;
 mod options;
+mod printed;
+mod spelling;
+#[cfg(test)]
+mod tests;
+mod written;
 
-use account::Account;
 use anyhow::anyhow;
 use options::Options;
-use std::{fs, io};
+use std::io::Read;
+use std::{env, fs};
 
-const HELP: &str = "panel [--page] [FILE]
+const HELP: &str = "panel [--page] [--room N] [--marks] [--manual] [--color] [FILE]
 
-Prints the instructions of a fault record, from FILE or from standard input, with an account of each call.
+Prints the calls of a fault record, from FILE or from standard input, on a page: its lines, and then an account of each call.
 
-  --page   the printed lines alone on standard output; the account goes to standard error
-  --help   this text
+  --page     the page's lines alone on standard output; the account goes to standard error
+  --room N   a page of N bytes; without this it has room for the whole record
+  --marks    the marks of the page: where the spans of opcodes and registers start and end
+  --manual   beside each block transfer, and each pop or push of one register, its spelling in the manual
+  --color    opcodes and registers in colour
+  --help     this text
 
 Lines that cannot be read are told on standard error, and the program then ends with status 1.
 ";
 
-fn record_of(rt: &HostRuntime, options: &Options) -> anyhow::Result<String> {
+// The bytes of the record: a failing controller may leave any.
+fn record_of(rt: &HostRuntime, options: &Options) -> anyhow::Result<Vec<u8>> {
     match &options.file {
-        Some(path) => Ok(fs::read_to_string(rt, path.as_str())?),
-        None => Ok(io::read_to_string(rt.alloc(), rt.stdin())?),
+        Some(path) => Ok(fs::read(rt, path.as_str())?),
+        None => {
+            let mut record = Vec::new(rt.alloc());
+            rt.stdin().read_to_end(&mut record)?;
+            Ok(record)
+        }
     }
-}
-
-fn show(rt: &HostRuntime, options: &Options, account: &Account) -> anyhow::Result<()> {
-    if options.page {
-        rt.print(account.page.as_str())?;
-        rt.eprint(account.text.as_str())?;
-    } else {
-        rt.print(account.text.as_str())?;
-    }
-    rt.eprint(account.misreadings.text.as_str())?;
-    Ok(())
 }
 
 fn run(rt: &HostRuntime) -> anyhow::Result<()> {
-    let options = options::given(rt)?;
+    let options = options::given(env::args(rt)?)?;
     if options.help {
         rt.print(HELP)?;
         return Ok(());
     }
     let record = record_of(rt, &options)?;
-    let account = account::of(rt.alloc(), record.as_str())?;
-    show(rt, &options, &account)?;
-    if account.misreadings.count > 0 {
+    let written = written::of(rt.alloc(), record.as_slice(), &options)?;
+    rt.print(written.output.as_str())?;
+    rt.eprint(written.messages.as_str())?;
+    if written.misread > 0 {
         return Err(anyhow!("a line of the record could not be read"));
     }
     Ok(())

@@ -1,3 +1,4 @@
+pub mod Calls
+pub mod Instructions
 pub mod Law
-pub mod Messages
-pub mod Settled
+pub mod Written

@@ -1,10 +1,9 @@
-// Reads a fault record that is text: a misreading shows what was found as it stands.
+// Reads a fault record: a text whose lines are instructions to be printed, in the notation of Rust's `{:?}`, and gaps.
 #![tactic(auto)]
 
-mod messages;
+mod call;
+mod instruction;
 mod read;
 
-pub use armv7::Call;
-pub use messages::message;
-pub use misreading::{Expected, Given, Misread};
+pub use misreading::{Expected, Given, Message, Misread};
 pub use read::read_line;

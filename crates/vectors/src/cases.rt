@@ -1,11 +1,11 @@
 // The stored cases, read one after the other.
 ghost use Rattle.std.specs.Prelude.{Err};
-ghost use Rattle.call_notation.specs.Law.{Answered};
+ghost use Rattle.record.specs.Law.{Answered};
 
 use crate::difference::{Difference, Seen};
 use crate::judge::{Answer, Verdict, judge};
 use armv7::{Call, Fault};
-use call_notation::{Misread, read_line};
+use record::{Misread, read_line};
 use std::alloc::{AllocError, Global};
 use std::str;
 

@@ -105,9 +105,9 @@ mod tests {
     #[test]
     fn misreadings(rt: HostRuntime) -> Result<(), Fail> {
         let mut misreadings = Misreadings::none(rt.alloc());
-        misreadings.add(rt.alloc(), b"line 1")?;
-        misreadings.add(rt.alloc(), &[b'a', 0xe9])?;
-        assert_eq!(rt; misreadings.text.as_str(), "line 1\naé\n");
+        misreadings.add(rt.alloc(), "line 1")?;
+        misreadings.add(rt.alloc(), "line 4")?;
+        assert_eq!(rt; misreadings.text.as_str(), "line 1\nline 4\n");
         assert_eq!(rt; misreadings.count, 2);
         Ok(())
     }

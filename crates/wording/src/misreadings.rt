@@ -1,8 +1,6 @@
 // What is said of the lines of a record that could not be read.
 ghost use Rattle.std.specs.Prelude.{◌≡◌, ◌+◌, ◌-◌, ◌^◌, min, [], ◌++◌, codes, OnOk, OnErr, string_bytes};
-ghost use Rattle.wording.specs.Words.{characters};
 
-use crate::bytes::Characters;
 use std::alloc::{AllocError, Global};
 
 // The messages, each on a line of its own, and how many there are.
@@ -25,12 +23,12 @@ impl Misreadings {
     }
 
     // One message more, or nothing changed where memory is short.
-    pub fn add(&mut self, heap: Global, message: &[u8]) -> Result<(), AllocError>
-        ensures text { OnOk result (string_bytes self.new.text ≡ string_bytes self.old.text ++ (characters message.now ++ codes "\n")) }
+    pub fn add(&mut self, heap: Global, message: &str) -> Result<(), AllocError>
+        ensures text { OnOk result (string_bytes self.new.text ≡ string_bytes self.old.text ++ (message.now ++ codes "\n")) }
         ensures count { OnOk result (self.new.count ≡ min (self.old.count + 1) (2 ^ 64 - 1)) }
         ensures unchanged { OnErr result ((string_bytes self.new.text ≡ string_bytes self.old.text) × (self.new.count ≡ self.old.count)) }
     {
-        let line = format!(in heap; "{}\n", Characters(message))?;
+        let line = format!(in heap; "{message}\n")?;
         self.text.push_str(line.as_str())?;
         self.count = self.count.saturating_add(1);
         Ok(())

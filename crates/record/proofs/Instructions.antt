@@ -14,9 +14,9 @@ use Rattle.opcode_notation.specs.Written.{opcode_variant, opcode_written}
 use Rattle.opcode_notation.proofs.Opcodes.{opcode_faithful}
 use Rattle.operand_notation.specs.Written.{operands_written, OperandsHeld}
 use Rattle.operand_notation.proofs.Operands.{operands_faithful}
-use Rattle.call_notation.specs.Instructions.{conditions, widths, from_flags, flags, Fields, fields, from_fields, instruction}
-use Rattle.call_notation.specs.declared.instruction.Flags.{Flags}
-use Rattle.call_notation.specs.Written.{condition_word, written, CanBe}
+use Rattle.record.specs.Instructions.{conditions, widths, from_flags, flags, Fields, fields, from_fields, instruction}
+use Rattle.record.specs.declared.instruction.Flags.{Flags}
+use Rattle.record.specs.Written.{condition_word, written, CanBe}
 
 condition_solid : (x : ConditionCode) → 0 < length (condition_word x)
 condition_solid EQ = omega arith

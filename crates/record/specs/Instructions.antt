@@ -8,7 +8,7 @@ use Rattle.opcode.specs.declared.Opcode.{Opcode}
 use Rattle.misreading.specs.declared.given.Given.TheVariants.{Condition, Opcode as OpcodeField, Operands, S, Wide, ThumbW, Thumb, OpenBrace, CloseBrace, OpenBracket, CloseBracket, Comma, Colon}
 use Rattle.misreading.specs.declared.misread.Expected.TheVariants.{Condition as a_condition}
 use Rattle.notation.specs.Parsing.{Parser, Table, chosen, flag, after, before, both, via}
-use Rattle.call_notation.specs.declared.instruction.Flags.{Flags}
+use Rattle.record.specs.declared.instruction.Flags.{Flags}
 use Rattle.opcode_notation.specs.Opcodes.{opcode}
 use Rattle.operand_notation.specs.Operands.{operands}
 

@@ -6,9 +6,9 @@ use Rattle.misreading.specs.declared.misread.Expected.TheVariants.{Call as a_cal
 use Rattle.notation.specs.Parsing.{Tokens, Parser, Stop, Table, then, givens, before, chosen, via}
 use Rattle.armv7.specs.declared.call.Call.{Call}
 use Rattle.armv7.specs.declared.call.Call.TheVariants.{Print, Gap}
-use Rattle.call_notation.specs.declared.call.Start.{Start}
-use Rattle.call_notation.specs.declared.call.Start.TheVariants.{Nothing, Gap as GapStart, Print as PrintStart}
-use Rattle.call_notation.specs.Instructions.{instruction}
+use Rattle.record.specs.declared.call.Start.{Start}
+use Rattle.record.specs.declared.call.Start.TheVariants.{Nothing, Gap as GapStart, Print as PrintStart}
+use Rattle.record.specs.Instructions.{instruction}
 
 unfoldable pub starts : Table Start
 starts = ([], Nothing) ∷ (codes "#", Nothing) ∷ (codes "gap", GapStart) ∷ (codes "Instruction", PrintStart) ∷ []

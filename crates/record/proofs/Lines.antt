@@ -11,13 +11,13 @@ use Rattle.notation.specs.Tokens.{blank, wordy, opens_wordy, put, tokens, first,
 use Rattle.notation.proofs.Faithful.{then_ok, taken_ok, ok_is, some_is, ok_pair, given_first, via_sound}
 use Rattle.armv7.specs.declared.call.Call.{Call}
 use Rattle.armv7.specs.declared.call.Call.TheVariants.{Print, Gap}
-use Rattle.call_notation.specs.declared.call.Start.{Start}
-use Rattle.call_notation.specs.declared.call.Start.TheVariants.{Nothing, Gap as GapStart, Print as PrintStart}
-use Rattle.call_notation.specs.Calls.{starts, whole, call_with, call, reading}
-use Rattle.call_notation.specs.Instructions.{instruction}
-use Rattle.call_notation.specs.Law.{PassedOver, Says, CanCall, Answers, Answered}
-use Rattle.call_notation.specs.Written.{written, CanBe}
-use Rattle.call_notation.proofs.Instructions.{instruction_sound, instruction_complete}
+use Rattle.record.specs.declared.call.Start.{Start}
+use Rattle.record.specs.declared.call.Start.TheVariants.{Nothing, Gap as GapStart, Print as PrintStart}
+use Rattle.record.specs.Calls.{starts, whole, call_with, call, reading}
+use Rattle.record.specs.Instructions.{instruction}
+use Rattle.record.specs.Law.{PassedOver, Says, CanCall, Answers, Answered}
+use Rattle.record.specs.Written.{written, CanBe}
+use Rattle.record.proofs.Instructions.{instruction_sound, instruction_complete}
 
 -- no token is empty
 abbrev Full : Tokens → Type 0

@@ -1,7 +1,7 @@
 // The calls of a record, each with the number of its line, and what is said of lines that could not be read.
 use armv7::Call;
-use call_notation::{message, read_line};
 use page::Entry;
+use record::{Message, read_line};
 use std::alloc::{AllocError, Global};
 use wording::Misreadings;
 
@@ -16,8 +16,8 @@ pub struct Calls {
 }
 
 impl Calls {
-    fn add(&mut self, number: u64, call: Call) -> Result<(), AllocError> {
-        self.lines.push(number)?;
+    fn add(&mut self, line: u64, call: Call) -> Result<(), AllocError> {
+        self.lines.push(line)?;
         self.entries.push(Entry {
             call,
             answer: Ok(0),
@@ -25,14 +25,14 @@ impl Calls {
         Ok(())
     }
 
-    // One line of the record.
-    fn line(&mut self, heap: Global, number: u64, line: &[u8]) -> Result<(), AllocError> {
-        match read_line(line) {
+    // The line of the record with this number.
+    fn read(&mut self, heap: Global, line: u64, text: &[u8]) -> Result<(), AllocError> {
+        match read_line(text) {
             Ok(None) => Ok(()),
-            Ok(Some(call)) => self.add(number, call),
+            Ok(Some(call)) => self.add(line, call),
             Err(misread) => {
-                let told = message(heap, number, &misread)?;
-                self.misreadings.add(heap, told.as_slice())
+                let message = Message { line, misread }.to_string(heap)?;
+                self.misreadings.add(heap, message.as_str())
             }
         }
     }
@@ -45,8 +45,8 @@ pub(crate) fn of(heap: Global, record: &[u8]) -> Result<Calls, AllocError> {
         entries: Vec::new(heap),
         misreadings: Misreadings::none(heap),
     };
-    for (line, number) in record.split(|b| *b == b'\n').zip(1..) {
-        calls.line(heap, number, line)?;
+    for (text, line) in record.split(|b| *b == b'\n').zip(1..) {
+        calls.read(heap, line, text)?;
     }
     Ok(calls)
 }

@@ -2,7 +2,7 @@
 ghost use Rattle.misreading.specs.declared.misread.Expected.TheVariants.{Condition as ACondition};
 ghost use Rattle.notation.specs.Parsing.{after, chosen, flag};
 ghost use Rattle.notation.specs.Reads.{Reads};
-ghost use Rattle.call_notation.specs.Instructions.{conditions, head, flags, instruction};
+ghost use Rattle.record.specs.Instructions.{conditions, head, flags, instruction};
 
 use armv7::{ConditionCode, Instruction, Opcode};
 use misreading::{Expected, Given};

@@ -2,7 +2,7 @@
 ghost use Rattle.misreading.specs.declared.misread.Expected.TheVariants.{Call as ACall};
 ghost use Rattle.notation.specs.Parsing.{chosen};
 ghost use Rattle.notation.specs.Reads.{Reads};
-ghost use Rattle.call_notation.specs.Calls.{starts, call, call_with, whole};
+ghost use Rattle.record.specs.Calls.{starts, call, call_with, whole};
 
 use crate::instruction::read_instruction;
 use armv7::{Call, Instruction};

@@ -1,4 +1,0 @@
-pub mod Calls
-pub mod Instructions
-pub mod Law
-pub mod Written
