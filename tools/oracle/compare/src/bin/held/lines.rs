@@ -19,7 +19,7 @@ pub fn run(seed: &str, count: &str, vectors: &str) -> Result<(), String> {
         notation.clear();
         write!(notation, "{inst:?}").expect("a string takes all");
         let answer = ask(&inst, NO_LIMITS);
-        if is_equal(&notation, &answer) {
+        if is_equal(&notation, &answer)? {
             equal += 1;
         } else {
             explainer.add(&inst, &answer)?;
@@ -35,19 +35,26 @@ pub fn run(seed: &str, count: &str, vectors: &str) -> Result<(), String> {
     Ok(())
 }
 
-/// Whether the library writes the same text and the same marks.
-fn is_equal(notation: &str, answer: &Answer) -> bool {
-    let Answer::Whole(text, marks) = answer else {
-        return false;
-    };
+/// Whether the library writes the same text and the same marks. Its functions have to agree.
+fn is_equal(notation: &str, answer: &Answer) -> Result<bool, String> {
+    let line = notation.as_bytes();
     let mut out = [0; 512];
     let mut row = [0; 256];
-    let ours = library::print_marked(notation.as_bytes(), &mut out, &mut row);
+    let ours = library::print_marked(line, &mut out, &mut row);
+    let mut unmarked_out = [0; 512];
+    let unmarked = library::print(line, &mut unmarked_out);
+    let without_marks = library::Answer { marks: 0, ..ours };
+    if library::read(line) != ours.column || unmarked != without_marks || unmarked_out != out {
+        return Err(format!("the library's functions differ: {notation}"));
+    }
+    let Answer::Whole(text, marks) = answer else {
+        return Ok(false);
+    };
     let theirs: Vec<u64> = marks.iter().map(number).collect();
-    ours.column == 0
+    Ok(ours.column == 0
         && ours.number == 0
         && out[..ours.length] == text[..]
-        && row[..ours.marks] == theirs[..]
+        && row[..ours.marks] == theirs[..])
 }
 
 /// A mark as the library numbers it.

@@ -4,7 +4,7 @@ use std::ffi::c_void;
 
 /// What came of a call; the header `dithwellor.h` says what the fields mean.
 #[repr(C)]
-#[derive(Clone, Copy, Default)]
+#[derive(Clone, Copy, Default, PartialEq, Eq)]
 pub struct Answer {
     pub length: usize,
     pub marks: usize,
