@@ -1,5 +1,6 @@
 // One line of a page: written with its line break, or not at all.
-ghost use Rattle.std.specs.Prelude.{◌≡◌, [], None};
+ghost use Rattle.std.specs.Prelude.{◌≡◌, [], None, length};
+ghost use Rattle.sink.specs.Items.{bytes};
 ghost use Rattle.sink.specs.Meaning.{room as room_of};
 ghost use Rattle.sink.specs.Outcome.{outcome};
 ghost use Rattle.lines.specs.Admission.{refused};
@@ -8,9 +9,13 @@ ghost use Rattle.page.specs.Rows.{row_refused, RowPrinted};
 
 use armv7::{Fault, Instruction};
 use display::visit_inst;
+use lines::admit;
 use measure::measure;
 use sink::{DisplaySink, RoomSink};
 use text::write_text;
+
+// A line has at most so many bytes.
+const LONGEST: usize = 285;
 
 // Refuses a line that is too long, with its line break, for the room.
 fn fit<S: RoomSink>(out: &S, size: usize) -> Result<(), Fault>
@@ -23,11 +28,23 @@ fn fit<S: RoomSink>(out: &S, size: usize) -> Result<(), Fault>
     }
 }
 
+// Refuses an instruction that has no line, and one whose line is too long, with its line break, for the room.
+// Kept: nothing is measured where there is room for the longest line, since a page is held to a bar of speed (docs/SPEED.md).
+fn fit_line<S: RoomSink>(instruction: &Instruction, out: &S) -> Result<(), Fault>
+    ensures { outcome result ≡ row_refused (refused instruction.now) (room_of (S.DisplaySink.meaning out.now)) (length (bytes (line instruction.now))) }
+{
+    if out.room() > LONGEST {
+        admit(instruction)?;
+        return Ok(());
+    }
+    let size = measure(instruction)?;
+    fit(out, size)
+}
+
 pub(crate) fn write_line<S: RoomSink>(instruction: &Instruction, out: &mut S) -> Result<(), Fault>
     ensures { RowPrinted S.DisplaySink.meaning S.DisplaySink.kept (refused instruction.now) (line instruction.now) out.old (outcome result) out.new }
 {
-    let size = measure(instruction)?;
-    fit(out, size)?;
+    fit_line(instruction, out)?;
     visit_inst(instruction, out)?;
     write_text(out, b"\n")
 }
