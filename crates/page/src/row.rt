@@ -1,5 +1,6 @@
 // One line of a page: written with its line break, or not at all.
-ghost use Rattle.std.specs.Prelude.{◌≡◌, [], None, length};
+ghost use Rattle.std.specs.Prelude.{◌≡◌, [], Some, None, length, IfOk, IfErr};
+ghost use Rattle.armv7.specs.Faults.{refusal as refusal_of};
 ghost use Rattle.sink.specs.Items.{bytes};
 ghost use Rattle.sink.specs.Meaning.{room as room_of};
 ghost use Rattle.sink.specs.Outcome.{outcome};
@@ -9,7 +10,6 @@ ghost use Rattle.page.specs.Rows.{row_refused, RowPrinted};
 
 use armv7::{Fault, Instruction};
 use display::visit_inst;
-use lines::admit;
 use measure::measure;
 use sink::{DisplaySink, RoomSink};
 use text::write_text;
@@ -28,13 +28,14 @@ fn fit<S: RoomSink>(out: &S, size: usize) -> Result<(), Fault>
     }
 }
 
-// Refuses an instruction that has no line, and one whose line is too long, with its line break, for the room.
-// Kept: nothing is measured where there is room for the longest line, since a page is held to a bar of speed (docs/SPEED.md).
+// Refuses an instruction whose line is too long, with its line break, for the room, or that has no line.
+// Kept: nothing is measured, and so nothing refused, where there is room for the longest line: a page is held to a bar of speed
+// (docs/SPEED.md).
 fn fit_line<S: RoomSink>(instruction: &Instruction, out: &S) -> Result<(), Fault>
-    ensures { outcome result ≡ row_refused (refused instruction.now) (room_of (S.DisplaySink.meaning out.now)) (length (bytes (line instruction.now))) }
+    ensures refusal { IfErr result (λ f. Some (refusal_of f) ≡ row_refused (refused instruction.now) (room_of (S.DisplaySink.meaning out.now)) (length (bytes (line instruction.now)))) }
+    ensures fits { IfOk result (λ _. refused instruction.now ≡ row_refused (refused instruction.now) (room_of (S.DisplaySink.meaning out.now)) (length (bytes (line instruction.now)))) }
 {
     if out.room() > LONGEST {
-        admit(instruction)?;
         return Ok(());
     }
     let size = measure(instruction)?;
