@@ -10,11 +10,9 @@ use crate::operands::write_operands;
 use crate::rows::write_rows;
 use crate::word::{write_form_word, write_own_word};
 use armv7::{Fault, Instruction};
-use lines::{Form, Reached, admit};
+use lines::{Form, Reached, admit, admit_reached, is_plain};
 use sink::DisplaySink;
 
-// Not inline: by itself, it does not burden the lines that are nothing but operands.
-#[inline(never)]
 fn write_line<T: DisplaySink>(
     form: Form<'_>,
     instruction: &Instruction,
@@ -39,14 +37,23 @@ fn write_plain<T: DisplaySink>(
     write_operands(reached, out)
 }
 
+// Any line, by its form. Not inline: by itself, it does not burden the lines that are nothing but operands.
+#[inline(never)]
+fn write_formed<T: DisplaySink>(instruction: &Instruction, out: &mut T) -> Result<(), Fault>
+    ensures { PrintedUnless T.meaning T.kept (refused instruction.now) (line instruction.now) out.old (outcome result) out.new }
+{
+    let form = admit(instruction)?;
+    write_line(form, instruction, out)
+}
+
 // Prints the line of an instruction that is not refused to a sink, as much of it as there is room for.
 // Kept: most lines by themselves, which are nothing but operands: so their form is never put together (docs/SPEED.md).
-#[inline(always)]
 pub fn visit_inst<T: DisplaySink>(instruction: &Instruction, out: &mut T) -> Result<(), Fault>
     ensures printed_or_refused { PrintedUnless T.meaning T.kept (refused instruction.now) (line instruction.now) out.old (outcome result) out.new }
 {
-    match admit(instruction)? {
-        Form::Plain(reached) => write_plain(reached, instruction, out),
-        form => write_line(form, instruction, out),
+    if is_plain(instruction) {
+        let reached = admit_reached(&instruction.operands)?;
+        return write_plain(reached, instruction, out);
     }
+    write_formed(instruction, out)
 }

@@ -1,19 +1,20 @@
 -- What the forms show, as the code finds them. Assumes nothing.
 use Rattle.std.proofs.Common.{◌≡◌, ℕ, ◌≤◌, Bool, true, false, cond, not, ◌&&◌, eqb, List, [], ◌∷◌, ◌++◌, Ok, Some, None, codes, Option, sym, refl, ap, ◌∙◌, arith, rules}
+use Rattle.std.specs.Option.{is_none}
 use Rattle.armv7.specs.Conditions.{condition_name, condition_number}
 use Rattle.armv7.specs.declared.instruction.Instruction.{Instruction}
 use Rattle.armv7.specs.declared.reg.Reg.{Reg}
 use Rattle.kind.specs.Kinds.{one_form}
-use Rattle.opcode.specs.Forms.{it, cps}
+use Rattle.opcode.specs.Forms.{Form, block, load_one, store_one, pop, push, it, cps, setend, coprocessor, plain}
 use Rattle.opcode.specs.Names.{name_of}
 use Rattle.sink.specs.Items.{Item, text_items}
 use Rattle.visitor.specs.Shapes.{Shape, no_more, if_one, if_post, if_pre, if_imm12, if_imm32, imm12, imm32}
 use Rattle.visitor.specs.Texts.{prefixed}
 use Rattle.lines.specs.declared.form.Form.TheVariants.{One, It, Cps}
-use Rattle.lines.specs.Admission.{reached_refused}
+use Rattle.lines.specs.Admission.{reached_refused, refused_by}
 use Rattle.lines.specs.Codes.{popped, pushed, one_on_stack, mode_of, mode_rows}
-use Rattle.lines.specs.Forms.{one_if, AdmittedAs}
-use Rattle.lines.specs.Lines.{at_sp, Parts, operand, shape_at, four, suffix, own_parts, one_parts, flag_row, it_letters, condition_at}
+use Rattle.lines.specs.Forms.{one_if, plain_by, AdmittedAs}
+use Rattle.lines.specs.Lines.{at_sp, Parts, operand, shape_at, four, suffix, own_parts, one_parts, flag_row, it_letters, condition_at, parts_by}
 
 popped_parts : (a b c d : Shape) (r : Reg) (f : Reg → Parts) (own : Parts) → Some r ≡ popped a b c d → f r ≡ if_one a (λ t. if_post b (λ x n add w. cond (at_sp x && (eqb n 4 && (add && (not w && (no_more c && no_more d))))) (f t) own) own) own
 popped_parts a b c d r f own e = grind (arith, e)
@@ -25,6 +26,25 @@ pushed_parts a b c d r f own e = grind (arith, e)
 pub one_admitted : (load : Bool) (i : Instruction) (r : Reg) → Some r ≡ one_on_stack load i.operands → None ≡ reached_refused 0 (four i) → AdmittedAs (one_form load) i (Ok (One load r))
 one_admitted true i r e h = record { refusal = h; parts = popped_parts (shape_at 0 i) (shape_at 1 i) (shape_at 2 i) (shape_at 3 i) r (λ t. one_parts (codes "pop") t i) (own_parts i) e; moves = ap (one_if true) e }
 one_admitted false i r e h = record { refusal = h; parts = pushed_parts (shape_at 0 i) (shape_at 1 i) (shape_at 2 i) (shape_at 3 i) r (λ t. one_parts (codes "push") t i) (own_parts i) e; moves = ap (one_if false) e }
+
+own_load : (a b c d : Shape) (f : Reg → Parts) (own : Parts) → is_none (popped a b c d) ≡ true → if_one a (λ t. if_post b (λ x n add w. cond (at_sp x && (eqb n 4 && (add && (not w && (no_more c && no_more d))))) (f t) own) own) own ≡ own
+own_load a b c d f own e = grind (arith, e)
+
+own_store : (a b c d : Shape) (f : Reg → Parts) (own : Parts) → is_none (pushed a b c d) ≡ true → if_one a (λ t. if_pre b (λ x n add w. cond (at_sp x && (eqb n 4 && (not add && (w && (no_more c && no_more d))))) (f t) own) own) own ≡ own
+own_store a b c d f own e = grind (arith, e)
+
+-- a plain instruction is refused for its operands alone, and shows nothing else
+pub plain_shown : (f : Form) (i : Instruction) → plain_by f i ≡ true → (refused_by f i ≡ reached_refused 0 (four i)) × (parts_by f i ≡ own_parts i)
+plain_shown load_one i e = (refl, own_load (shape_at 0 i) (shape_at 1 i) (shape_at 2 i) (shape_at 3 i) (λ t. one_parts (codes "pop") t i) (own_parts i) e)
+plain_shown store_one i e = (refl, own_store (shape_at 0 i) (shape_at 1 i) (shape_at 2 i) (shape_at 3 i) (λ t. one_parts (codes "push") t i) (own_parts i) e)
+plain_shown pop i e = (refl, refl)
+plain_shown push i e = (refl, refl)
+plain_shown plain i e = (refl, refl)
+plain_shown (block load add pre wback user) i e = absurd (search (rules, e))
+plain_shown it i e = absurd (search (rules, e))
+plain_shown cps i e = absurd (search (rules, e))
+plain_shown setend i e = absurd (search (rules, e))
+plain_shown (coprocessor suffixes before behind) i e = absurd (search (rules, e))
 
 -- the conditions are numbered in order
 numbered : (n : ℕ) → n ≤ 14 → condition_number (condition_at n) ≡ n

@@ -1,5 +1,6 @@
 -- The line of an instruction, by the form that it was admitted as. Assumes nothing.
 use Rattle.std.specs.Prelude.{◌≡◌, ℕ, Bool, true, false, List, [], ◌∷◌, ◌++◌, map, Some, None, codes, Option, Result, IfOk}
+use Rattle.std.specs.Option.{is_none}
 use Rattle.armv7.specs.Conditions.{condition_name, condition_number}
 use Rattle.armv7.specs.declared.fault.Fault.{Fault}
 use Rattle.armv7.specs.declared.instruction.Instruction.{Instruction}
@@ -97,6 +98,22 @@ moved_by plain i = None
 
 abbrev pub moved : Instruction → Option Moved
 moved i = moved_by (form i.opcode) i
+
+-- whether the line is the opcode's own word with the operands reached behind it, and the instruction refused for one of them alone
+abbrev pub plain_by : OpcodeForm → Instruction → Bool
+plain_by (block load add pre wback user) i = false
+plain_by load_one i = is_none (one_on_stack true i.operands)
+plain_by store_one i = is_none (one_on_stack false i.operands)
+plain_by pop i = true
+plain_by push i = true
+plain_by it i = false
+plain_by cps i = false
+plain_by setend i = false
+plain_by (coprocessor suffixes before behind) i = false
+plain_by plain i = true
+
+abbrev pub is_plain : Instruction → Bool
+is_plain i = plain_by (form i.opcode) i
 
 -- an instruction of this form is refused as it should be, or told what it shows
 pub record AdmittedAs (f : OpcodeForm) (i : Instruction) (answer : Result Form Fault) : Type 0 where

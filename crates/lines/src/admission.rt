@@ -6,7 +6,7 @@ ghost use Rattle.kind.specs.Kinds.{optional, suffixes_of, one_form};
 ghost use Rattle.visitor.specs.Shapes.{shape};
 ghost use Rattle.lines.specs.Admission.{reached_refused, refused};
 ghost use Rattle.lines.specs.Codes.{mode_of};
-ghost use Rattle.lines.specs.Forms.{parts_of, moved_in, moved, AdmittedAs};
+ghost use Rattle.lines.specs.Forms.{parts_of, moved_in, moved, is_plain as shows_operands, AdmittedAs};
 ghost use Rattle.lines.specs.Lines.{parts};
 
 use crate::alias::{stack_register, stacks};
@@ -130,6 +130,18 @@ fn admit_setend(instruction: &Instruction) -> Result<Form<'_>, Fault>
     match first {
         Operand::Imm12(number) => Ok(Form::Setend { number }),
         _ => Err(Fault::Shape),
+    }
+}
+
+// Whether the line is the opcode's own word with the operands behind it, so that `admit_reached` is all that admits it.
+#[inline(always)]
+pub fn is_plain(instruction: &Instruction) -> bool
+    ensures value { result ≡ shows_operands instruction.now }
+{
+    match kind_by(instruction.opcode) {
+        Kind::Plain | Kind::List { .. } => true,
+        Kind::One { load } => stack_register(load, &instruction.operands).is_none(),
+        _ => false,
     }
 }
 

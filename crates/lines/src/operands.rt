@@ -35,7 +35,7 @@ pub(crate) fn admit_operand(operand: Operand, place: Place) -> Result<(), Fault>
 
 // The operands before the first Nothing.
 #[inline(always)]
-pub(crate) fn admit_reached(operands: &[Operand; 4]) -> Result<Reached<'_>, Fault>
+pub fn admit_reached(operands: &[Operand; 4]) -> Result<Reached<'_>, Fault>
     ensures refusal { outcome result ≡ reached_refused 0 (all_of operands.now) }
     ensures value { IfOk result (λ r. r.operands.now ≡ reached (all_of operands.now)) }
 {

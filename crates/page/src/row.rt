@@ -1,5 +1,7 @@
 // One line of a page: written with its line break, or not at all.
-ghost use Rattle.std.specs.Prelude.{◌≡◌, [], None};
+ghost use Rattle.std.specs.Prelude.{◌≡◌, [], Some, None, length, IfOk, IfErr};
+ghost use Rattle.armv7.specs.Faults.{refusal as refusal_of};
+ghost use Rattle.sink.specs.Items.{bytes};
 ghost use Rattle.sink.specs.Meaning.{room as room_of};
 ghost use Rattle.sink.specs.Outcome.{outcome};
 ghost use Rattle.lines.specs.Admission.{refused};
@@ -12,6 +14,9 @@ use measure::measure;
 use sink::{DisplaySink, RoomSink};
 use text::write_text;
 
+// A line has at most so many bytes.
+const LONGEST: usize = 285;
+
 // Refuses a line that is too long, with its line break, for the room.
 fn fit<S: RoomSink>(out: &S, size: usize) -> Result<(), Fault>
     ensures { outcome result ≡ row_refused None (room_of (S.DisplaySink.meaning out.now)) size }
@@ -23,11 +28,24 @@ fn fit<S: RoomSink>(out: &S, size: usize) -> Result<(), Fault>
     }
 }
 
+// Refuses an instruction whose line is too long, with its line break, for the room, or that has no line.
+// Kept: nothing is measured, and so nothing refused, where there is room for the longest line: a page is held to a bar of speed
+// (docs/SPEED.md).
+fn fit_line<S: RoomSink>(instruction: &Instruction, out: &S) -> Result<(), Fault>
+    ensures refusal { IfErr result (λ f. Some (refusal_of f) ≡ row_refused (refused instruction.now) (room_of (S.DisplaySink.meaning out.now)) (length (bytes (line instruction.now)))) }
+    ensures fits { IfOk result (λ _. refused instruction.now ≡ row_refused (refused instruction.now) (room_of (S.DisplaySink.meaning out.now)) (length (bytes (line instruction.now)))) }
+{
+    if out.room() > LONGEST {
+        return Ok(());
+    }
+    let size = measure(instruction)?;
+    fit(out, size)
+}
+
 pub(crate) fn write_line<S: RoomSink>(instruction: &Instruction, out: &mut S) -> Result<(), Fault>
     ensures { RowPrinted S.DisplaySink.meaning S.DisplaySink.kept (refused instruction.now) (line instruction.now) out.old (outcome result) out.new }
 {
-    let size = measure(instruction)?;
-    fit(out, size)?;
+    fit_line(instruction, out)?;
     visit_inst(instruction, out)?;
     write_text(out, b"\n")
 }

@@ -1,24 +1,24 @@
-use Rattle.std.proofs.Common.{[], ◌∷◌, length, None, sym, ap, ◌∙◌, subst}
-use Rattle.sink.specs.Items.{byte, bytes}
-use Rattle.sink.specs.Meaning.{room}
+use Rattle.std.proofs.Common.{◌≡◌, List, [], ◌∷◌, Some, None, Option, subst}
+use Rattle.armv7.specs.Faults.{Refusal}
+use Rattle.sink.specs.Items.{Item, byte}
+use Rattle.sink.specs.Meaning.{Meaning, Laws}
 use Rattle.sink.specs.Outcome.{outcome}
+use Rattle.sink.specs.Printed.{Printed}
 use Rattle.sink.proofs.Chain.{both}
 use Rattle.visitor.specs.Visits.{PrintedUnless}
+use Rattle.lines.specs.Admission.{refused}
 use Rattle.lines.specs.Lines.{line}
-use Rattle.page.specs.Rows.{row_refused, row}
+use Rattle.page.specs.Rows.{row}
+use Rattle.page.proofs.Fits.{clash}
 use Rattle.page.proofs.row.write_line.Goals as goal
+
+-- a line break behind a line that was printed
+broken : {S : Type 0} {meaning : S → Meaning} {kept : S → S → Type 0} (laws : Laws meaning kept) (o : Option Refusal) (is : List Item) (s m t : S) (r : Option Refusal) → PrintedUnless meaning kept o is s None m → Printed meaning kept (byte 10 ∷ []) m r t → PrintedUnless meaning kept o (row is) s r t
+broken laws None is s m t r p q = both laws is (byte 10 ∷ []) p q
+broken laws (Some why) is s m t r p q = let told = p.told in clash cc
 
 pub returns : goal.returns
 returns g c =
     let i = c.args.instruction.now in
-    let out = c.args.out.now in
-    let meaning = g.S.DisplaySink.meaning in
-    let kept = g.S.DisplaySink.kept in
-    let admitted = c.in_ok-size.ensures.refusal in
-    let fits =
-    ap (λ o. row_refused o (room (meaning out)) (length (bytes (line i)))) (sym admitted)
-    ∙ ap (row_refused None (room (meaning out))) (sym c.in_ok-size.ensures.size)
-    ∙ sym c.in_ok-fit.ensures in
-    let printed = subst (λ o. PrintedUnless meaning kept o (line i) out None c.visit_inst.new.out) (sym admitted) c.in_ok-visit_inst.ensures.printed_or_refused in
-    subst (λ o. PrintedUnless meaning kept o (row (line i)) out (outcome c.write_text.result) c.write_text.new.out) (sym fits)
-    (both g.S.DisplaySink.laws (line i) (byte 10 ∷ []) printed c.write_text.ensures.printed)
+    let printed = broken g.S.DisplaySink.laws (refused i) (line i) c.args.out.now c.visit_inst.new.out c.write_text.new.out (outcome c.write_text.result) c.in_ok-visit_inst.ensures.printed_or_refused c.write_text.ensures.printed in
+    subst (λ o. PrintedUnless g.S.DisplaySink.meaning g.S.DisplaySink.kept o (row (line i)) c.args.out.now (outcome c.write_text.result) c.write_text.new.out) c.in_ok-fit_line.ensures.fits printed
