@@ -23,12 +23,13 @@ fn write_next<T: DisplaySink>(out: &mut T, reg: Reg, more: bool) -> Result<(), F
 fn write_chosen<T: DisplaySink>(out: &mut T, mask: u16) -> Result<(), Fault>
     ensures { Printed T.meaning T.kept (joined (map reg_items (chosen all_regs mask))) out.old (outcome result) out.new }
 {
+    // The bits of the registers from here on.
+    let mut rest = mask;
     for reg in Reg::ALL {
-        // The bit of this register, and above it those of the registers that may follow.
-        let from_here = mask >> reg.number();
-        if from_here % 2 == 1 {
-            write_next(out, reg, from_here > 1)?;
+        if rest % 2 == 1 {
+            write_next(out, reg, rest > 1)?;
         }
+        rest /= 2;
     }
     Ok(())
 }

@@ -10,5 +10,5 @@ abbrev pub invariant-loop-reg : goal.invariant-loop-reg
 invariant-loop-reg g l =
     (done : List Item)
     × Printed g.T.DisplaySink.meaning g.T.DisplaySink.kept done l.initial.out None l.out
-    × (done ++ ahead l.mask l.reg-index ≡ joined (map reg_items (chosen all_regs l.mask)))
-    × Within l.mask l.reg-index
+    × (done ++ ahead l.rest l.reg-index ≡ joined (map reg_items (chosen all_regs l.mask)))
+    × Within l.rest l.reg-index
