@@ -49,7 +49,6 @@ fn put<T: Copy>(memory: &mut [T], used: &mut usize, piece: &[T])
 }
 
 // The same of a piece of more than four elements: up to eight, four by four.
-#[inline(never)]
 fn put_long<T: Copy>(memory: &mut [T], used: &mut usize, piece: &[T])
     requires long { 4 ≤ length piece.now }
     requires room { used.old + length piece.now ≤ length memory.old }
@@ -64,21 +63,19 @@ fn put_long<T: Copy>(memory: &mut [T], used: &mut usize, piece: &[T])
     put(memory, used, &piece[4..]);
 }
 
-// Puts as much of a longer piece as there is room for, and refuses it.
+// Puts as much of a longer piece as there is room for.
 #[cold]
 #[inline(never)]
-fn fill<T: Copy>(memory: &mut [T], used: &mut usize, piece: &[T]) -> Result<(), Fault>
+fn fill<T: Copy>(memory: &mut [T], used: &mut usize, piece: &[T])
     requires full { length memory.old < used.old + length piece.now }
     requires within { used.old ≤ length memory.old }
     ensures count { used.new ≡ length memory.old }
     ensures text { take used.new memory.new ≡ take used.old memory.old ++ take (length memory.old - used.old) piece.now }
     ensures rest { Filled memory.old used.old memory.new used.new }
-    ensures answer { outcome result ≡ full_below (length memory.old - used.old) (length piece.now) }
 {
     let left = memory.len() - *used;
     copy(memory, *used, &piece[..left]);
     *used = memory.len();
-    Err(Fault::SinkFull)
 }
 
 // Puts as much of the piece as there is room for behind the first `used` elements, counts it to them, and refuses a piece that is
@@ -93,7 +90,8 @@ pub(crate) fn append<T: Copy>(memory: &mut [T], used: &mut usize, piece: &[T]) -
     ensures answer { outcome result ≡ full_below (length memory.old - used.old) (length piece.now) }
 {
     if piece.len() > memory.len() - *used {
-        return fill(memory, used, piece);
+        fill(memory, used, piece);
+        return Err(Fault::SinkFull);
     }
     if piece.len() > 4 {
         put_long(memory, used, piece);

@@ -43,13 +43,24 @@ fn fill_prefixed(memory: &mut [u8; 10], number: u64) -> usize
 }
 
 // `0x` and the last eight digits of the number in base 16, without leading zeros.
-#[inline(always)]
-fn write_last_digits<T: DisplaySink>(out: &mut T, number: u64) -> Result<(), Fault>
+#[inline(never)]
+fn write_many_digits<T: DisplaySink>(out: &mut T, number: u64) -> Result<(), Fault>
     ensures { Printed T.meaning T.kept (text_items (prefixed 8 number)) out.old (outcome result) out.new }
 {
     let mut memory = [0u8; 10];
     let start = fill_prefixed(&mut memory, number);
     write_text(out, &memory[start..])
+}
+
+// The same. Kept: a single digit, as most numbers have, by itself, which is then a piece of known length (docs/SPEED.md).
+#[inline(always)]
+fn write_last_digits<T: DisplaySink>(out: &mut T, number: u64) -> Result<(), Fault>
+    ensures { Printed T.meaning T.kept (text_items (prefixed 8 number)) out.old (outcome result) out.new }
+{
+    if number < 16 {
+        return write_text(out, &[b'0', b'x', HEX_DIGITS[number as usize]]);
+    }
+    write_many_digits(out, number)
 }
 
 // `0x` and the digits of the number in base 16, without leading zeros: for every width that it fits, the same text.

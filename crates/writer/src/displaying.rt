@@ -178,13 +178,15 @@ fn write_visited<T: DisplaySink>(out: &mut T, operand: &Operand) -> Result<(), F
 }
 
 // Writes the text of the operand, or refuses it before anything is written.
-// Kept: a register by itself, inline and with no visit, since it is what most operands are (docs/SPEED.md).
+// Kept: registers and numbers by themselves, inline and with no visit, since they are what most operands are (docs/SPEED.md).
 #[inline(always)]
 pub fn write_operand<T: DisplaySink>(out: &mut T, operand: &Operand) -> Result<(), Fault>
     ensures printed_or_refused { PrintedUnless T.meaning T.kept (operand_refused 0 operand.now) (operand_items operand.now) out.old (outcome result) out.new }
 {
     match *operand {
         Operand::Reg(reg) => write_reg(out, reg),
+        Operand::Imm12(imm) => write_prefixed(out, u32::from(imm)),
+        Operand::Imm32(imm) => write_prefixed(out, imm),
         _ => write_visited(out, operand),
     }
 }

@@ -11,10 +11,12 @@ use armv7::{Fault, RegImmShift, RegRegShift, RegShift, RegShiftStyle, ShiftStyle
 use sink::DisplaySink;
 use text::{write_decimal, write_reg, write_text};
 
-const STYLE_WORDS: [&[u8]; 4] = [b", lsl ", b", lsr ", b", asr ", b", ror "];
+// Each is of one length, which is then known where it is written.
+const STYLE_WORDS: [[u8; 6]; 4] = [*b", lsl ", *b", lsr ", *b", asr ", *b", ror "];
 
 // A number behind a word.
-fn write_counted<T: DisplaySink>(out: &mut T, word: &[u8], number: u8) -> Result<(), Fault>
+#[inline(always)]
+fn write_counted<T: DisplaySink>(out: &mut T, word: &[u8; 6], number: u8) -> Result<(), Fault>
     ensures { Printed T.meaning T.kept (text_items (word.now ++ decimal number)) out.old (outcome result) out.new }
 {
     write_text(out, word)?;
@@ -22,10 +24,11 @@ fn write_counted<T: DisplaySink>(out: &mut T, word: &[u8], number: u8) -> Result
 }
 
 // The word of a shift, with what stands around it.
-fn style_word(stype: ShiftStyle) -> &'static [u8]
+#[inline(always)]
+fn style_word(stype: ShiftStyle) -> &'static [u8; 6]
     ensures { result.now ≡ codes ", " ++ (style_name stype ++ codes " ") }
 {
-    STYLE_WORDS[stype as usize]
+    &STYLE_WORDS[stype as usize]
 }
 
 // A shift by an amount; what 0 stands for depends on the kind.
