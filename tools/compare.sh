@@ -62,7 +62,7 @@ count_lines() {
             printf "%s, %s: %.1f instructions a line, %.2f times the original\n", mix, name, count / (10 * lines), count / original
         }
         BEGIN {
-            tell("original", original)
+            printf "%s, original: %.1f instructions a line\n", mix, original / (10 * lines)
             tell("sink", sink)
             tell("buffer", buffer)
             tell("page", page - none)

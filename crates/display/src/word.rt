@@ -95,8 +95,8 @@ fn write_it_mnemonic<T: DisplaySink>(
 }
 
 // The mnemonic of an IT block with its suffix and letters.
-// Kept: the edges of write_word again. One function over a closure that writes what stands in the span was proved, and takes 33
-// instructions more a word, by which it misses its bar (docs/SPEED.md); one with letters that may be missing would ask at each word
+// Kept: the edges of write_word again. One function over a closure that writes what stands in the span was proved, and takes 42
+// instructions more a line, by which it misses its bar (docs/SPEED.md); one with letters that may be missing would ask at each word
 // what only IT has.
 fn write_it_word<T: DisplaySink>(
     name: &[u8],

@@ -59,7 +59,7 @@ fn in_register_span<T: DisplaySink, F: FnOnce(&mut T) -> Result<(), Fault>>(
 }
 
 // A name in a register span.
-// Kept: apart from in_register_span, since a closure is not inline: by it a list of all registers misses its bar (docs/SPEED.md).
+// Kept: apart from in_register_span, since a closure is not inline: by it a line misses its bar of speed (docs/SPEED.md).
 #[inline(always)]
 pub fn write_spanned<T: DisplaySink>(out: &mut T, name: &[u8]) -> Result<(), Fault>
     ensures printed { Printed T.meaning T.kept (spanned name.now) out.old (outcome result) out.new }

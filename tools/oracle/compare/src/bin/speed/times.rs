@@ -7,10 +7,10 @@ use original::armv7::Instruction;
 use std::time::{Duration, Instant};
 
 /// So many lines are printed at a time, or somewhat fewer: the rounds are whole.
-const LINES: usize = 200_000;
+const LINES: usize = 50_000;
 
 /// The least of so many times is taken.
-const REPEATS: usize = 15;
+const REPEATS: usize = 60;
 
 /// A way of the program.
 struct Way {
