@@ -17,7 +17,7 @@ struct dithwellor_answer {
     size_t marks;
     /* The column, from 1, of what cannot be read in the line; 0 if all was read. */
     size_t column;
-    /* The number of a refusal, 1 to 11; 0 if nothing was refused. */
+    /* The number of a refusal, 3 to 9; 0 if nothing was refused. */
     uint8_t number;
     /* The place of the operand that the refusal is about, 0 to 3; 4 if it is about none. */
     uint8_t place;

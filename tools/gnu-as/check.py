@@ -1,9 +1,9 @@
 #!/usr/bin/env python3
 """Hands the manual lines that panel prints to GNU as, and compares the encoded words with the fields of the records.
 
-    (cd crates/panel && rt run -- --help) && python3 tools/gnu-as/check.py [PANEL]
+    python3 tools/gnu-as/check.py [PANEL]
 
-PANEL is crates/panel/out/panel where it is not given. Needs arm-none-eabi-as and arm-none-eabi-objcopy (Debian: binutils-arm-none-eabi).
+PANEL is a built panel; where it is not given, crates/panel is built. Needs arm-none-eabi-as and arm-none-eabi-objcopy (Debian: binutils-arm-none-eabi).
 Ends with status 1 if a word has other fields than its record, or if a record has no manual line. The lines that the assembler
 refuses are counted by its reason, and written with it to target/gnu-as/refused.txt.
 """
@@ -106,8 +106,14 @@ def decoded(word):
     return None
 
 
+def built_panel():
+    folder = ROOT / "crates" / "panel"
+    subprocess.run(["rt", "run", "--", "--help"], cwd=folder, stdout=subprocess.DEVNULL, check=True)
+    return str(folder / "out" / "panel")
+
+
 def main():
-    panel = sys.argv[1] if len(sys.argv) > 1 else str(ROOT / "crates" / "panel" / "out" / "panel")
+    panel = sys.argv[1] if len(sys.argv) > 1 else built_panel()
     WORK.mkdir(parents=True, exist_ok=True)
     records, fields = zip(*cases())
     spelt = manual_lines(panel, records)

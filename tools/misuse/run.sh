@@ -1,5 +1,5 @@
 #!/usr/bin/env bash
-# Shows that a gap on a closed page and a write past an open one are refused, and the right use of a page is not. It needs no
+# Shows that a print or gap on a closed page and a write past an open one are refused, and the right use of a page is not. It needs no
 # proof, since the compiler refuses both before any, and says nothing where all is as it should be.
 set -euo pipefail
 cd "$(dirname "$0")/../.."
@@ -37,5 +37,6 @@ if ! tried right_use 'page' 'page' || ! grep -qx 7 "$work/right_use.log"; then
   cat "$work/right_use.log"
   exit 1
 fi
-refused closed_page 'let closed = page.close();' 'let mut closed = page.close(); let _ = closed.gap();' unknown-method
+refused gap_on_a_closed_page 'let closed = page.close();' 'let mut closed = page.close(); let _ = closed.gap();' unknown-method
+refused print_on_a_closed_page 'let closed = page.close();' 'let mut closed = page.close(); let nop = armv7::Instruction::plain(armv7::Opcode::NOP, [armv7::Operand::Nothing; 4]); let _ = closed.print(\&nop);' unknown-method
 refused sink_in_a_page 'let _ = page.gap();' 'let _ = sink.write(b"pan 8");' borrow-e0382

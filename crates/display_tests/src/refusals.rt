@@ -1,18 +1,29 @@
 // Refusals 3 to 8, at each place that can have them.
-use armv7::{Fault, Instruction, Opcode, Operand, Reg, RegShift};
+use armv7::{ConditionCode, Fault, Instruction, Opcode, Operand, Place, Reg, RegShift};
 use display::visit_inst;
 use lines::admit;
 use measure::measure;
 use sink::TextSink;
 use std::test::Fail;
+use writer::write_operand;
 
 const NONE: Operand = Operand::Nothing;
 
 const R0: Operand = Operand::Reg(Reg::R0);
 
 // Each with the number and the place of its refusal; the place is 4 where it is about no operand.
-const REFUSED: [(Opcode, [Operand; 4], (u8, u8)); 16] = [
+const REFUSED: [(Opcode, [Operand; 4], (u8, u8)); 18] = [
     (Opcode::LDC(16), [R0, NONE, NONE, NONE], (3, 4)),
+    (
+        Opcode::LDC(16),
+        [Operand::Coprocessor(0), NONE, NONE, NONE],
+        (3, 4),
+    ),
+    (
+        Opcode::CPS(true),
+        [Operand::Imm12(8), Operand::Coprocessor(0), NONE, NONE],
+        (5, 0),
+    ),
     (Opcode::MCRR(15, 16), [NONE, NONE, NONE, NONE], (3, 4)),
     (Opcode::MRC2(0, 0, 16), [NONE, NONE, NONE, NONE], (3, 4)),
     (
@@ -139,4 +150,24 @@ fn operands_are_refused_at_each_place(rt: HostRuntime) -> Result<(), Fail> {
         );
     }
     Ok(())
+}
+
+// By itself, what has no text is refused at place 0, and nothing is written.
+#[test]
+fn a_visit_by_itself_is_refused(rt: HostRuntime) {
+    for operand in [NONE, Operand::Coprocessor(0)] {
+        let mut memory = [7u8; 4];
+        let mut out = TextSink::new(&mut memory);
+        assert!(rt; write_operand(&mut out, &operand) == Err(Fault::DeadOperand(Place::First)));
+        assert_eq!(rt; out.end(), 0);
+        assert!(rt; memory == [7; 4]);
+        assert!(rt; measurer::measure(&operand) == Err(Fault::DeadOperand(Place::First)));
+    }
+}
+
+#[test]
+fn no_condition_is_above_14(rt: HostRuntime) {
+    assert!(rt; ConditionCode::build(0) == Some(ConditionCode::EQ));
+    assert!(rt; ConditionCode::build(14) == Some(ConditionCode::AL));
+    assert!(rt; ConditionCode::build(15) == None);
 }

@@ -1,28 +1,22 @@
 -- How many bytes the text of an operand has, from the sizes of its parts. Assumes nothing.
-use Rattle.std.proofs.Common.{◌≡◌, ℕ, zero, suc, ◌+◌, ◌*◌, ◌/◌, ◌%◌, ◌^◌, ◌<◌, ◌≤◌, Bool, true, false, cond, not, ltb, List, [], ◌∷◌, ◌++◌, length, ℤ, pos, negsuc, nat_abs, codes, sym, refl, ap, ◌∙◌, ap₂, not-suc-le-zero, pow-suc, arith, length-append, le-ltb, lt-ltb, ne_eqb}
+use Rattle.std.proofs.Common.{◌≡◌, ℕ, zero, suc, ◌+◌, ◌*◌, ◌/◌, ◌%◌, ◌^◌, ◌<◌, ◌≤◌, Bool, true, false, cond, not, List, [], ◌∷◌, ◌++◌, length, ℤ, pos, negsuc, nat_abs, codes, sym, refl, ap, ◌∙◌, ap₂, not-suc-le-zero, pow-suc, arith, length-append, le-ltb, lt-ltb, ne_eqb}
 use Rattle.std.proofs.Math.Pow.{pow_mono}
 use Rattle.std.proofs.lemmas.Nat.{div_below, le-div}
-use Rattle.armv7.specs.declared.bank.Bank.{Bank}
-use Rattle.armv7.specs.declared.bank.Bank.TheVariants.{Usr, Fiq, Irq, Svc, Abt, Und, Mon, Hyp}
 use Rattle.armv7.specs.declared.reg.Reg.{Reg}
 use Rattle.armv7.specs.declared.reg.Reg.TheVariants.{R0, R1, R2, R3, R4, R5, R6, R7, R8, R9, R10, R11, R12, R13, R14, R15}
-use Rattle.armv7.specs.Banks.{bank_name}
 use Rattle.armv7.specs.declared.operand.Operand.TheVariants.{RegDerefPostindexRegShift, RegDerefPreindexRegShift, RegDerefPostindexOffset, RegDerefPreindexOffset, RegDerefPostindexReg, RegDerefPreindexReg, CoprocOption}
 use Rattle.armv7.specs.declared.shift.RegShift.{RegShift}
 use Rattle.armv7.specs.Shifts.{shift_fields, shift_word}
 use Rattle.sink.specs.Items.{Item, text_items, bytes}
 use Rattle.sink.proofs.Rows.{length_bytes, bytes_text}
 use Rattle.visitor.specs.Operands.{bang, minus, offset_text, operand_items}
-use Rattle.visitor.specs.Texts.{flagged, spanned, reg_items, decimal, hex_digit, hex_digits, prefixed, branch_text, shift_items}
+use Rattle.visitor.specs.Texts.{flagged, reg_items, hex_digit, hex_digits, prefixed, branch_text, shift_items}
 
 abbrev pub size : List Item → ℕ
 size is = length (bytes is)
 
 pub size_text : (p : List ℕ) → size (text_items p) ≡ length p
 size_text p = ap length (bytes_text p)
-
-pub size_spanned : (p : List ℕ) → size (spanned p) ≡ length p
-size_spanned p = let none : size (text_items p) + 0 ≡ size (text_items p) = omega arith in length_bytes (text_items p) _ ∙ none ∙ size_text p
 
 pub reg_bounds : (r : Reg) → (2 ≤ size (reg_items r)) × (size (reg_items r) ≤ 3)
 reg_bounds R0 = omega arith
@@ -42,27 +36,10 @@ reg_bounds R13 = omega arith
 reg_bounds R14 = omega arith
 reg_bounds R15 = omega arith
 
-pub bank_length : (b : Bank) → length (bank_name b) ≡ 3
-bank_length Usr = refl
-bank_length Fiq = refl
-bank_length Irq = refl
-bank_length Svc = refl
-bank_length Abt = refl
-bank_length Und = refl
-bank_length Mon = refl
-bank_length Hyp = refl
-
 -- a text of one byte under a flag
 pub flagged_length : (b : Bool) (x : ℕ) → length (flagged b (x ∷ [])) ≡ cond b 1 0
 flagged_length true x = refl
 flagged_length false x = refl
-
-pub decimal_length : (n : ℕ) → length (decimal n) ≡ cond (ltb n 10) 1 2
-decimal_length n = by (ltb n 10)
-  where
-    by : (t : Bool) → length (cond t ((48 + n) ∷ []) ((48 + n / 10) ∷ (48 + n % 10) ∷ [])) ≡ cond t 1 2
-    by true = refl
-    by false = refl
 
 power_least : (d : ℕ) → 1 ≤ 16 ^ d
 power_least zero = omega arith

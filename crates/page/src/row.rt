@@ -28,7 +28,8 @@ fn fit<S: RoomSink>(out: &S, size: usize) -> Result<(), Fault>
     }
 }
 
-// Refuses an instruction whose line is too long, with its line break, for the room, or that has no line.
+// Where there may be no room for the longest line: refuses an instruction whose line is too long, with its line break, or that has
+// no line.
 // Kept: nothing is measured, and so nothing refused, where there is room for the longest line: a page is held to a bar of speed
 // (docs/SPEED.md).
 fn fit_line<S: RoomSink>(instruction: &Instruction, out: &S) -> Result<(), Fault>

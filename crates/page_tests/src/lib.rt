@@ -1,9 +1,10 @@
-// Tests of pages: on both sinks, full ones, ones with few marks, and with refused calls in between.
+// Tests of pages: on each sink, full ones, ones with few marks, ones with room for any line, and with refused calls in between.
 #![tactic(auto)]
 
 #[cfg(test)]
 mod tests {
-    use armv7::{Call, Fault, Instruction, Opcode, Operand, Place, Reg};
+    use armv7::{Call, ConditionCode, Fault, Instruction, Opcode, Operand, Place, Reg};
+    use cells::{Cell, CellSink, Ink};
     use page::{Entry, Page, PageFault};
     use runs::run;
     use sink::{DisplaySink, Mark, MarkSink, TextSink};
@@ -17,6 +18,16 @@ mod tests {
             Operand::Nothing,
         ];
         Call::Print(Instruction::plain(Opcode::LDM(true, false, false, false), operands))
+    }
+
+    // The longest line, of 285 bytes and 130 marks.
+    fn longest() -> Call {
+        Call::Print(Instruction {
+            condition: ConditionCode::EQ,
+            s: true,
+            thumb_w: true,
+            ..Instruction::plain(Opcode::MCRR(15, 15), [Operand::RegList(0xffff); 4])
+        })
     }
 
     // Its second operand is one that has no text.
@@ -91,6 +102,45 @@ mod tests {
         assert!(rt; entries[1].answer == Ok(1));
         assert!(rt; entries[2].answer == refused(NO_TEXT, 1));
         assert!(rt; entries[3].answer == Ok(2));
+    }
+
+    #[test]
+    fn the_longest_line_fits_just_its_room(rt: HostRuntime) {
+        let mut memory = [0u8; 286];
+        let mut row = [Mark::BLANK; 140];
+        let mut entries = [entry(dead()), entry(longest()), entry(Call::Gap)];
+        let closed = run(MarkSink::new(&mut memory, &mut row), &mut entries);
+        assert_eq!(rt; closed.count(), 1);
+        assert_eq!(rt; closed.end().end(), (286, 130));
+        assert!(rt; memory[285] == 10);
+        assert!(rt; entries[0].answer == refused(NO_TEXT, 0));
+        assert!(rt; entries[1].answer == Ok(1));
+        assert!(rt; entries[2].answer == refused(Fault::PageFull, 1));
+    }
+
+    #[test]
+    fn the_longest_line_is_refused_a_byte_less(rt: HostRuntime) {
+        let mut memory = [7u8; 285];
+        let mut entries = [entry(longest())];
+        let closed = run(TextSink::new(&mut memory), &mut entries);
+        assert_eq!(rt; closed.end().end(), 0);
+        assert!(rt; memory == [7; 285]);
+        assert!(rt; entries[0].answer == refused(Fault::PageFull, 0));
+    }
+
+    #[test]
+    fn a_page_of_cells_tells_its_room(rt: HostRuntime) {
+        let blank = Cell {
+            byte: 0,
+            ink: Ink::Plain,
+        };
+        let mut memory = [blank; 13];
+        let mut entries = [entry(pop()), entry(Call::Gap)];
+        let closed = run(CellSink::new(&mut memory), &mut entries);
+        assert_eq!(rt; closed.end().end(), 13);
+        assert!(rt; memory.map(|cell| cell.byte) == *b"pop {r4, pc}\n");
+        assert!(rt; memory[2].ink == Ink::Opcode && memory[5].ink == Ink::Register);
+        assert!(rt; entries[1].answer == refused(Fault::PageFull, 1));
     }
 
     #[test]

@@ -182,10 +182,11 @@ fn other_options_are_refused(rt: HostRuntime) -> Result<(), Fail> {
 }
 
 #[test]
-fn a_file_is_read(rt: HostRuntime) -> Result<(), Fail> {
+fn a_file_and_help_are_taken(rt: HostRuntime) -> Result<(), Fail> {
     let options = asked(rt.alloc(), "panel --page record.txt")?;
     assert!(rt; options.page);
     assert_eq!(rt; options.file.as_deref(), Some("record.txt"));
+    assert!(rt; asked(rt.alloc(), "panel --help")?.help);
     Ok(())
 }
 

@@ -53,9 +53,6 @@ condition_found GT = refl
 condition_found LE = refl
 condition_found AL = refl
 
-condition_words : (w : List ℕ) → Unit {0}
-condition_words w = tt
-
 condition_faithful : Faithful (λ _. Unit {0}) (λ x. condition_word x ∷ []) (chosen a_condition conditions)
 unfolding conditions
 condition_faithful = chosen_faithful a_condition condition_word conditions refl condition_solid condition_found

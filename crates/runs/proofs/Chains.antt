@@ -1,17 +1,16 @@
 -- Any chain of a page's calls keeps the law on runs. Assumes nothing.
-use Rattle.std.proofs.Common.{◌≡◌, ℕ, suc, ◌+◌, ◌-◌, ◌^◌, ◌<◌, ◌≤◌, min, true, false, List, [], ◌∷◌, ◌++◌, map, length, take, drop, Some, None, Option, Result, sym, refl, ap, ◌∙◌, subst, ap₂, append_assoc, append-nil, arith, length-append, take_all}
+use Rattle.std.proofs.Common.{◌≡◌, ℕ, suc, ◌+◌, ◌-◌, ◌^◌, ◌<◌, ◌≤◌, true, false, List, [], ◌∷◌, ◌++◌, map, length, drop, Some, None, Option, Result, sym, refl, ap, ◌∙◌, subst, append_assoc, append-nil, arith, length-append}
 use mathlib.Core.List.{map-append}
 use lib.Seq.{drop-append_seam}
 use Rattle.std.specs.List.{AllByRecursion}
 use Rattle.armv7.specs.Faults.{Refusal}
-use Rattle.sink.specs.Items.{Item, byte, bytes, marks_from}
-use Rattle.sink.specs.Meaning.{Meaning, Sound, Laws, room}
-use Rattle.sink.specs.Printed.{taken, Printed}
+use Rattle.sink.specs.Items.{Item, bytes}
+use Rattle.sink.specs.Meaning.{Meaning, Laws, room}
+use Rattle.sink.specs.Printed.{taken}
 use Rattle.sink.proofs.Chain.{taken_both, room_taken, nothing}
 use Rattle.blocks.specs.declared.fields.Sheet.{Sheet}
 use Rattle.blocks.specs.Bounds.{Bounded, done, OneLine}
 use Rattle.blocks.specs.Grammar.{Name, pop, push, transfer, name_letters, stack_name, Fits, stack_line, transfer_line}
-use Rattle.blocks.specs.Pages.{page, Cut, CutApart}
 use Rattle.blocks.proofs.Bounds.{lines_bounded}
 use Rattle.blocks.proofs.Pages.{pages_cut}
 use Rattle.blocks.proofs.Sheets.{own_sheets}
@@ -204,4 +203,4 @@ pub lawful_own : Lawful own
 lawful_own = record { bounded = lines_bounded; fits = own_sheets }
 
 pub steps_make_runs : {S : Type 0} {meaning : S → Meaning} {kept : S → S → Type 0} → Laws meaning kept → {s : Spelling} → Lawful s → StepsMakeRuns meaning kept s
-steps_make_runs laws {s} w start es p d = law laws s start w (state laws s start d) (map called es) refl
+steps_make_runs laws {s} w start es p d = let end = state laws s start d in (law laws s start w end (map called es) refl, end.rest)

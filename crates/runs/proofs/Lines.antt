@@ -1,9 +1,8 @@
 -- Lines one below the other, and the calls that were accepted. Assumes nothing.
-use Rattle.std.proofs.Common.{◌≡◌, ℕ, ◌≤◌, List, [], ◌∷◌, ◌++◌, map, length, get_or, drop, sym, refl, ap, ◌∙◌, ap₂, append_assoc, arith, length-append}
+use Rattle.std.proofs.Common.{◌≡◌, ℕ, List, [], ◌∷◌, ◌++◌, map, length, get_or, drop, sym, refl, ap, ◌∙◌, ap₂, append_assoc, arith, length-append}
 use Rattle.sink.specs.Items.{Item, byte, bytes}
 use Rattle.sink.proofs.Rows.{bytes_append}
 use Rattle.blocks.specs.Pages.{page}
-use Rattle.armv7.specs.declared.call.Call.{Call}
 use Rattle.page.specs.declared.entry.Entry.{Entry}
 use Rattle.page.specs.Answers.{Told, lines, fault, told}
 use Rattle.runs.specs.Runs.{if_accepted, accepted, page_items}

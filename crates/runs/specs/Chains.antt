@@ -18,7 +18,7 @@ pub data Driven {S : Type 0} (meaning : S → Meaning) (kept : S → S → Type 
       → Step meaning kept s c p r q
       → Driven meaning kept s start (es ++ record { call = c; answer = r } ∷ []) q
 
--- any such chain keeps the law on runs
+-- any such chain keeps the law on runs, and leaves what else every call leaves
 abbrev pub StepsMakeRuns : {S : Type 0} → (S → Meaning) → (S → S → Type 0) → Spelling → Type 0
 StepsMakeRuns {S} meaning kept s =
-    (start : S) (es : List Entry) (p : Page S) → Driven meaning kept s start es p → Run s (meaning start) (map called es) es (meaning p.sink) p.count
+    (start : S) (es : List Entry) (p : Page S) → Driven meaning kept s start es p → Run s (meaning start) (map called es) es (meaning p.sink) p.count × kept start p.sink

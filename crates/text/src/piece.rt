@@ -78,7 +78,8 @@ fn write_longer<T: DisplaySink>(out: &mut T, name: &[u8]) -> Result<(), Fault>
     write_spanned(out, name)
 }
 
-// Kept: two letters by themselves, since their length is then known where they are written, which a list is paid for (docs/SPEED.md).
+// Kept: two letters by themselves: their length is then known where they are written, without which a list of all registers misses
+// its bar of speed (docs/SPEED.md).
 #[inline(always)]
 pub fn write_reg<T: DisplaySink>(out: &mut T, reg: Reg) -> Result<(), Fault>
     ensures printed { Printed T.meaning T.kept (reg_items reg) out.old (outcome result) out.new }

@@ -16,7 +16,7 @@ characters bs = flat_map encode_utf8 bs
 abbrev pub place_words : ℕ → List ℕ
 place_words p = if nat_lt p no_operand then codes ", operand " ++ decimal p else []
 
--- a refusal's number, word and place
+-- a refusal's number and word, and the place where it is about an operand
 abbrev pub refusal_words : Fault → List ℕ
 refusal_words f = decimal (refusal f).number ++ (codes ", " ++ (characters (fault_word f) ++ place_words (refusal f).place))
 

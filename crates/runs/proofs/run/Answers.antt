@@ -1,4 +1,4 @@
-use Rattle.std.proofs.Common.{◌≡◌, ◌<◌, ◌≤◌, [], map, length, sym, refl, ap, ◌∙◌, subst, arith, take_all}
+use Rattle.std.proofs.Common.{◌<◌, ◌≤◌, [], map, length, sym, refl, ◌∙◌, subst, arith, take_all}
 use Rattle.runs.specs.Runs.{called, Run}
 use Rattle.page.specs.Spellings.{own}
 use Rattle.runs.specs.Chains.{Driven, made}
