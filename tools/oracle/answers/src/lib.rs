@@ -2,6 +2,7 @@
 
 pub mod ask;
 pub mod chosen;
+pub mod command;
 pub mod make;
 mod opcodes;
 mod operands;

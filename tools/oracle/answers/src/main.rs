@@ -2,7 +2,7 @@
 //! and writes the answers.
 
 use answers::ask::{self, Limits};
-use answers::{chosen, products, random, topics, words, write};
+use answers::{chosen, command, products, random, topics, words, write};
 use original::armv7::Instruction;
 use std::io::{self, BufWriter, Write};
 use std::process::ExitCode;
@@ -18,15 +18,7 @@ LIST is one of
   random-words SEED COUNT   random ARM words that decode";
 
 fn main() -> ExitCode {
-    let arguments: Vec<String> = std::env::args().skip(1).collect();
-    let arguments: Vec<&str> = arguments.iter().map(String::as_str).collect();
-    match run(&arguments) {
-        Ok(()) => ExitCode::SUCCESS,
-        Err(message) => {
-            eprintln!("{message}");
-            ExitCode::FAILURE
-        }
-    }
+    command::done(run)
 }
 
 fn run(arguments: &[&str]) -> Result<(), String> {

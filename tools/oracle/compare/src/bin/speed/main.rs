@@ -5,6 +5,7 @@ mod program;
 mod theirs;
 mod times;
 
+use answers::{ask, command};
 use std::process::ExitCode;
 
 const USAGE: &str = "\
@@ -27,14 +28,6 @@ fn run(arguments: &[&str]) -> Result<(), String> {
 }
 
 fn main() -> ExitCode {
-    answers::ask::hush_the_original();
-    let arguments: Vec<String> = std::env::args().skip(1).collect();
-    let arguments: Vec<&str> = arguments.iter().map(String::as_str).collect();
-    match run(&arguments) {
-        Ok(()) => ExitCode::SUCCESS,
-        Err(message) => {
-            eprintln!("{message}");
-            ExitCode::FAILURE
-        }
-    }
+    ask::hush_the_original();
+    command::done(run)
 }
