@@ -7,7 +7,7 @@ ghost use Rattle.lines.specs.Admission.{refused};
 ghost use Rattle.lines.specs.Lines.{line};
 
 use armv7::{Fault, Instruction};
-use display::visit_inst;
+use direct::print_text;
 use sink::TextSink;
 
 const MAX_INSTRUCTION_LEN: usize = 512;
@@ -40,7 +40,7 @@ impl InstructionTextBuffer {
         ensures text { text_of self.new ≡ formatted (refused instruction.now) (line instruction.now) }
     {
         let mut out = TextSink::new(&mut self.content);
-        let answer = visit_inst(instruction, &mut out);
+        let answer = print_text(instruction, &mut out);
         let size = out.end();
         self.len = size;
         answer

@@ -1,3 +1,4 @@
+pub mod Harmless
 pub mod Lowest
 pub mod Numbers
 pub mod Shown

@@ -13,5 +13,5 @@ pub use admission::{admit, is_plain};
 pub use alias::{stack_register, stack_word, stacks};
 pub use form::{Block, Form, ItBlock, Reached};
 pub use letters::letter_count;
-pub use operands::{admit_reached, is_nothing};
+pub use operands::{admit_operands, admit_reached, is_nothing};
 pub use suffix::Suffix;

@@ -1,10 +1,10 @@
 // The operands of an instruction, and which of them have no text.
-ghost use Rattle.std.specs.Prelude.{◌≡◌, IfOk};
+ghost use Rattle.std.specs.Prelude.{◌≡◌, false, IfOk};
 ghost use Rattle.armv7.specs.Faults.{place_index};
 ghost use Rattle.sink.specs.Outcome.{outcome};
 ghost use Rattle.visitor.specs.Operands.{operand_refused};
 ghost use Rattle.visitor.specs.Shapes.{shape, no_more as no_operand_there};
-ghost use Rattle.lines.specs.Admission.{reached_refused};
+ghost use Rattle.lines.specs.Admission.{Harmless, reached_refused};
 ghost use Rattle.lines.specs.Lines.{all_of, reached};
 
 use crate::form::Reached;
@@ -48,4 +48,43 @@ pub fn admit_reached(operands: &[Operand; 4]) -> Result<Reached<'_>, Fault>
         admit_operand(*operand, Place::ALL[index])?;
     }
     Ok(Reached { operands })
+}
+
+// Is it of a kind of which some are refused where they are reached?
+#[inline(always)]
+fn may_be_refused(operand: Operand) -> bool
+    ensures { result ≡ false → Harmless operand }
+{
+    matches!(
+        operand,
+        Operand::RegDerefPostindexRegShift(_, _, _, _)
+            | Operand::BranchOffset(_)
+            | Operand::BranchThumbOffset(_)
+            | Operand::Coprocessor(_)
+    )
+}
+
+// Not inline, as few instructions have an operand that may be refused.
+#[inline(never)]
+fn admit_each(operands: &[Operand; 4]) -> Result<(), Fault>
+    ensures { outcome result ≡ reached_refused 0 (all_of operands.now) }
+{
+    admit_reached(operands)?;
+    Ok(())
+}
+
+// The same of the operands by themselves.
+#[inline(always)]
+pub fn admit_operands(operands: &[Operand; 4]) -> Result<(), Fault>
+    ensures refusal { outcome result ≡ reached_refused 0 (all_of operands.now) }
+{
+    let [first, second, third, fourth] = *operands;
+    if may_be_refused(first)
+        || may_be_refused(second)
+        || may_be_refused(third)
+        || may_be_refused(fourth)
+    {
+        return admit_each(operands);
+    }
+    Ok(())
 }

@@ -1,3 +1,4 @@
 pub mod Chain
 pub mod Lents
+pub mod Lines
 pub mod Rows

@@ -1,3 +1,4 @@
+pub mod Composed
 pub mod Items
 pub mod Lent
 pub mod MarkSinks

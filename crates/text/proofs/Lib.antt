@@ -1,3 +1,3 @@
-mod Branches
-mod Chosen
-mod Hex
+pub mod Branches
+pub mod Chosen
+pub mod Hex

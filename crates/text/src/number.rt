@@ -9,7 +9,7 @@ use crate::piece::{write_either, write_text};
 use armv7::Fault;
 use sink::DisplaySink;
 
-const HEX_DIGITS: [u8; 16] = *b"0123456789abcdef";
+pub const HEX_DIGITS: [u8; 16] = *b"0123456789abcdef";
 
 // Puts `0x` before the start of the digits, and answers where that begins.
 #[inline(always)]
@@ -27,7 +27,7 @@ fn mark_base(memory: &mut [u8; 10], start: usize) -> usize
 // Fills the end of the memory with `0x` and the last eight digits of the number in base 16, without leading zeros, and answers
 // where that begins.
 #[inline(always)]
-fn fill_prefixed(memory: &mut [u8; 10], number: u64) -> usize
+pub fn fill_prefixed(memory: &mut [u8; 10], number: u64) -> usize
     ensures range { result ≤ 10 }
     ensures value { drop result memory.new ≡ prefixed 8 number }
 {

@@ -1,2 +1,2 @@
-mod Addresses
-mod Choices
+pub mod Addresses
+pub mod Choices

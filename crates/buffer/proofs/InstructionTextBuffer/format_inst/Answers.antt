@@ -10,13 +10,13 @@ use Rattle.buffer.proofs.InstructionTextBuffer.format_inst.Goals as goal
 pub shape_of-self : goal.shape_of-self
 shape_of-self c =
     let i = c.args.instruction.now in
-    let told = held text_meaning TextKept text_laws (line i) _ _ c.new-out.result c.visit_inst-answer.new.out (outcome c.visit_inst-answer.result) (refused i) c.new-out.ensures.empty (λ e. omega (arith, (lines_bounded i e).size)) c.visit_inst-answer.ensures.printed_or_refused in
+    let told = held text_meaning TextKept text_laws (line i) _ _ c.new-out.result c.print_text-answer.new.out (outcome c.print_text-answer.result) (refused i) c.new-out.ensures.empty (λ e. omega (arith, (lines_bounded i e).size)) c.print_text-answer.ensures.printed_or_refused in
     sym (told.rest.memory ∙ c.new-out.ensures.memory.1)
 
 pub returns : goal.returns
 returns c =
     let i = c.args.instruction.now in
-    let told = held text_meaning TextKept text_laws (line i) _ _ c.new-out.result c.visit_inst-answer.new.out (outcome c.visit_inst-answer.result) (refused i) c.new-out.ensures.empty (λ e. omega (arith, (lines_bounded i e).size)) c.visit_inst-answer.ensures.printed_or_refused in
+    let told = held text_meaning TextKept text_laws (line i) _ _ c.new-out.result c.print_text-answer.new.out (outcome c.print_text-answer.result) (refused i) c.new-out.ensures.empty (λ e. omega (arith, (lines_bounded i e).size)) c.print_text-answer.ensures.printed_or_refused in
     record {
       answer = told.told;
       text = ap (take c.end-size.result) c.end-size.ensures.memory ∙ c.end-size.ensures.text ∙ told.text;

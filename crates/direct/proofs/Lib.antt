@@ -1,0 +1,3 @@
+mod Chain
+mod Operands
+mod Fallback
