@@ -1,5 +1,5 @@
 // Addresses. Where two flags are given, the first adds the offset rather than taking it off, and the second writes the address back.
-ghost use Rattle.std.specs.Prelude.{Bool, List, ◌≡◌, ◌+◌, ◌≤◌, ◌++◌, codes};
+ghost use Rattle.std.specs.Prelude.{Bool, List, ◌+◌, ◌≤◌, ◌++◌, codes};
 ghost use Rattle.armv7.specs.declared.operand.Operand.TheVariants.{RegWBack, RegDeref};
 ghost use Rattle.armv7.specs.Shifts.{shift_fields, shift_word};
 ghost use Rattle.sink.specs.Items.{Item, text_items};

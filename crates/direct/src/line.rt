@@ -1,5 +1,5 @@
 // Lines, each by what it shows.
-ghost use Rattle.std.specs.Prelude.{◌≡◌, [], ◌∷◌, ◌+◌, ◌≤◌, ◌++◌, map, codes};
+ghost use Rattle.std.specs.Prelude.{◌+◌, ◌≤◌, ◌++◌, map, codes};
 ghost use Rattle.kind.specs.Kinds.{optional};
 ghost use Rattle.opcode.specs.Names.{name_of};
 ghost use Rattle.sink.specs.Items.{text_items};

@@ -1,5 +1,5 @@
 // Numbers.
-ghost use Rattle.std.specs.Prelude.{◌≡◌, ℕ, ◌+◌, ◌*◌, ◌^◌, ◌<◌, ◌≤◌, ◌++◌};
+ghost use Rattle.std.specs.Prelude.{ℕ, ◌+◌, ◌^◌, ◌<◌, ◌≤◌};
 ghost use Rattle.sink.specs.Items.{text_items};
 ghost use Rattle.visitor.specs.Texts.{decimal, prefixed, branch_text};
 ghost use Rattle.sink.specs.Composed.{Composed};

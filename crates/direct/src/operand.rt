@@ -1,5 +1,5 @@
 // Operands.
-ghost use Rattle.std.specs.Prelude.{◌≡◌, ◌+◌, ◌≤◌, ◌*◌, length, map};
+ghost use Rattle.std.specs.Prelude.{◌+◌, ◌≤◌, ◌*◌, false, length, map};
 ghost use Rattle.armv7.specs.declared.operand.Operand.TheVariants.{Imm12, Imm32, CoprocOption, CReg as Control, BankedReg, BankedSPSR, StatusRegMask as Fields, RegDerefPostindexOffset};
 ghost use Rattle.visitor.specs.Operands.{operand_items};
 ghost use Rattle.visitor.specs.Texts.{followed};
@@ -93,11 +93,10 @@ fn put_postindex_offset(
     base: Reg,
     offset: u16,
     add: bool,
-    _wback: bool,
 ) -> usize
     requires { at ≤ 362 }
     ensures bound { result ≤ at + 22 }
-    ensures composed { Composed (operand_items (RegDerefPostindexOffset base offset add _wback)) memory.old at memory.new result }
+    ensures composed { Composed (operand_items (RegDerefPostindexOffset base offset add false)) memory.old at memory.new result }
 {
     put_postindex(memory, at, base, offset, add, false)
 }
@@ -121,8 +120,8 @@ fn put_other(memory: &mut [u8; LINE_ROOM], at: usize, operand: &Operand) -> usiz
         Operand::RegDerefPreindexRegShift(base, shift, add, wback) => put_preindex(
             memory, at, base, shift, add, wback,
         ),
-        Operand::RegDerefPostindexOffset(base, offset, add, wback) => put_postindex_offset(
-            memory, at, base, offset, add, wback,
+        Operand::RegDerefPostindexOffset(base, offset, add, _) => put_postindex_offset(
+            memory, at, base, offset, add,
         ),
         Operand::RegDerefPreindexOffset(base, offset, add, wback) => put_preindex(
             memory, at, base, offset, add, wback,

@@ -96,7 +96,7 @@ pub(crate) fn put_either(
     }
 }
 
-// A name in a span.
+// A name in a span, whose edges leave no byte.
 #[inline(always)]
 pub(crate) fn put_spanned(memory: &mut [u8; LINE_ROOM], at: usize, name: &[u8]) -> usize
     requires { at + length name.now ≤ 384 }

@@ -1,5 +1,5 @@
 // The line of an instruction, printed right into the memory of a text sink.
-ghost use Rattle.std.specs.Prelude.{◌≡◌, [], cond, None};
+ghost use Rattle.std.specs.Prelude.{[], cond, None};
 ghost use Rattle.sink.specs.Outcome.{outcome};
 ghost use Rattle.sink.specs.Printed.{Printed};
 ghost use Rattle.sink.specs.TextSinks.{text_meaning, TextKept};

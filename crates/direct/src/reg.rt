@@ -1,5 +1,5 @@
 // Registers.
-ghost use Rattle.std.specs.Prelude.{◌≡◌, ◌+◌, ◌≤◌, ◌++◌, map, codes};
+ghost use Rattle.std.specs.Prelude.{◌+◌, ◌≤◌, ◌++◌, map, codes};
 ghost use Rattle.sink.specs.Items.{text_items};
 ghost use Rattle.visitor.specs.Texts.{flagged, reg_items, joined, chosen, all_regs, list_items};
 ghost use Rattle.sink.specs.Composed.{Composed};

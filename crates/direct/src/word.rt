@@ -1,5 +1,5 @@
 // Words: a name with what stands behind it.
-ghost use Rattle.std.specs.Prelude.{◌≡◌, ◌+◌, ◌≤◌, ◌++◌, length};
+ghost use Rattle.std.specs.Prelude.{◌+◌, ◌≤◌, ◌++◌, length};
 ghost use Rattle.sink.specs.Items.{text_items};
 ghost use Rattle.lines.specs.Forms.{suffix_text};
 ghost use Rattle.lines.specs.Lines.{condition_suffix, word_items};
