@@ -1,9 +1,9 @@
 -- Items that are composed one row after the other. Assumes nothing.
 use Rattle.std.proofs.Common.{◌≡◌, ℕ, ◌+◌, ◌-◌, ◌≤◌, List, [], ◌∷◌, ◌++◌, length, take, drop, sym, refl, ap, ap₂, ◌∙◌, subst, append_assoc, append-nil, arith, drop-drop}
 use mathlib.Core.List.{map-append}
-use Rattle.sink.specs.declared.sink.Edge.TheVariants.{Start, End}
+use Rattle.sink.specs.declared.sink.Edge.TheVariants.{End}
 use Rattle.sink.specs.declared.sink.Span.{Span}
-use Rattle.sink.specs.Items.{Item, byte, edge, text_items, bytes}
+use Rattle.sink.specs.Items.{Item, byte, edge, within, text_items, bytes}
 use Rattle.sink.proofs.Rows.{bytes_append, length_bytes, bytes_text}
 use Rattle.sink.specs.Composed.{Composed}
 
@@ -47,7 +47,7 @@ same_bytes {xs = xs} {ys} {n} {k} e p = record {
 }
 
 -- items in a span
-pub in_span : (k : Span) (is : List Item) {xs ys : List ℕ} {n j : ℕ} → Composed is xs n ys j → Composed (edge Start k ∷ (is ++ edge End k ∷ [])) xs n ys j
+pub in_span : (k : Span) (is : List Item) {xs ys : List ℕ} {n j : ℕ} → Composed is xs n ys j → Composed (within k is) xs n ys j
 in_span k is p = same_bytes (sym (bytes_append is (edge End k ∷ []) ∙ append-nil (bytes is))) p
 
 -- memory and its end, known under other names

@@ -1,5 +1,5 @@
 -- Operands none of which is refused. Assumes nothing.
-use Rattle.std.proofs.Common.{◌≡◌, ℕ, suc, Bool, cond, List, [], ◌∷◌, None, Some, Option, sym, refl, ap, ◌∙◌}
+use Rattle.std.proofs.Common.{◌≡◌, ℕ, suc, cond, List, [], ◌∷◌, None, Some, Option, sym, refl, ap, ◌∙◌}
 use Rattle.armv7.specs.declared.operand.Operand.{Operand}
 use Rattle.armv7.specs.Faults.{Refusal}
 use Rattle.visitor.specs.Operands.{operand_refused}

@@ -13,7 +13,7 @@ use Rattle.opcode.specs.Forms.{Suffixes, bare, conditional, full, Form, form, bl
 use Rattle.opcode.specs.Names.{name_of}
 use Rattle.sink.specs.declared.sink.Edge.TheVariants.{Start, End}
 use Rattle.sink.specs.declared.sink.Span.TheVariants.{Opcode, Register}
-use Rattle.sink.specs.Items.{Item, edge, text_items}
+use Rattle.sink.specs.Items.{Item, edge, text_items, within}
 use Rattle.visitor.specs.Operands.{operand_items, bang}
 use Rattle.visitor.specs.Shapes.{Shape, shape, no_more, if_one, if_base, if_list, if_post, if_pre, if_imm12, if_imm32}
 use Rattle.visitor.specs.Texts.{flagged, reg_items, decimal, prefixed, joined, list_items}
@@ -186,7 +186,7 @@ parts_by (coprocessor suffixes before behind) i = coprocessor_parts suffixes bef
 parts_by plain i = own_parts i
 
 abbrev pub word_items : List ℕ → List Item
-word_items word = edge Start Opcode ∷ (text_items word ++ edge End Opcode ∷ [])
+word_items word = within Opcode (text_items word)
 
 -- a space and the rows, where there are any
 abbrev pub behind_word : List (List Item) → List Item

@@ -1,5 +1,5 @@
 // Which instructions are printed, and what their lines show: the checks, in their order.
-ghost use Rattle.std.specs.Prelude.{◌≡◌, [], ◌∷◌, IfOk};
+ghost use Rattle.std.specs.Prelude.{◌≡◌, true, [], ◌∷◌, IfOk};
 ghost use Rattle.opcode.specs.Forms.{block, it, cps, setend, plain, coprocessor};
 ghost use Rattle.sink.specs.Outcome.{outcome};
 ghost use Rattle.kind.specs.Kinds.{optional, suffixes_of, one_form};
@@ -7,7 +7,7 @@ ghost use Rattle.visitor.specs.Shapes.{shape};
 ghost use Rattle.lines.specs.Admission.{reached_refused, refused};
 ghost use Rattle.lines.specs.Codes.{mode_of};
 ghost use Rattle.lines.specs.Forms.{parts_of, moved_in, moved, is_plain as shows_operands, AdmittedAs};
-ghost use Rattle.lines.specs.Lines.{parts};
+ghost use Rattle.lines.specs.Lines.{four, own_parts, parts};
 
 use crate::alias::{stack_register, stacks};
 use crate::coprocessor::admit_codes;
@@ -133,16 +133,25 @@ fn admit_setend(instruction: &Instruction) -> Result<Form<'_>, Fault>
     }
 }
 
-// Whether the line is the opcode's own word with the operands behind it, so that `admit_reached` is all that admits it.
 #[inline(always)]
-pub fn is_plain(instruction: &Instruction) -> bool
-    ensures value { result ≡ shows_operands instruction.now }
+fn shows_own(instruction: &Instruction) -> bool
+    ensures { result ≡ shows_operands instruction.now }
 {
     match kind_by(instruction.opcode) {
         Kind::Plain | Kind::List { .. } => true,
         Kind::One { load } => stack_register(load, &instruction.operands).is_none(),
         _ => false,
     }
+}
+
+// Whether the line is the opcode's own word with the operands behind it, so that `admit_reached` is all that admits it.
+#[inline(always)]
+pub fn is_plain(instruction: &Instruction) -> bool
+    ensures value { result ≡ shows_operands instruction.now }
+    ensures refusal { result ≡ true → refused instruction.now ≡ reached_refused 0 (four instruction.now) }
+    ensures shown { result ≡ true → parts instruction.now ≡ own_parts instruction.now }
+{
+    shows_own(instruction)
 }
 
 // What the line of the instruction shows, or why it has none.

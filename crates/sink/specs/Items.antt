@@ -1,6 +1,7 @@
 -- What is handed to a sink: bytes, and the edges of spans. Assumes nothing.
-use Rattle.std.specs.Prelude.{ℕ, zero, suc, List, [], ◌∷◌, map}
+use Rattle.std.specs.Prelude.{ℕ, zero, suc, List, [], ◌∷◌, ◌++◌, map}
 use Rattle.sink.specs.declared.sink.Edge.{Edge}
+use Rattle.sink.specs.declared.sink.Edge.TheVariants.{Start, End}
 use Rattle.sink.specs.declared.sink.Mark.{Mark}
 use Rattle.sink.specs.declared.sink.Span.{Span}
 
@@ -10,6 +11,10 @@ pub data Item : Type 0 where
 
 abbrev pub text_items : List ℕ → List Item
 text_items = map byte
+
+-- items in a span
+abbrev pub within : Span → List Item → List Item
+within k is = edge Start k ∷ (is ++ edge End k ∷ [])
 
 abbrev pub bytes : List Item → List ℕ
 bytes [] = []

@@ -2,10 +2,10 @@
 ghost use Rattle.std.specs.Prelude.{List, ◌++◌, if◌then◌else◌, codes};
 ghost use Rattle.armv7.specs.Banks.{bank_name};
 ghost use Rattle.sink.specs.declared.sink.Span.TheVariants.{Register};
-ghost use Rattle.sink.specs.Items.{Item, text_items};
+ghost use Rattle.sink.specs.Items.{Item, text_items, within};
 ghost use Rattle.sink.specs.Outcome.{outcome};
 ghost use Rattle.sink.specs.Printed.{Printed};
-ghost use Rattle.text.specs.Spans.{within, Writes};
+ghost use Rattle.text.specs.Spans.{Writes};
 ghost use Rattle.visitor.specs.Texts.{flagged, spanned, reg_items};
 
 use armv7::{Bank, Fault, Reg};

@@ -8,9 +8,8 @@ use Rattle.armv7.specs.declared.shift.ShiftStyle.{ShiftStyle}
 use Rattle.armv7.specs.declared.shift.ShiftStyle.TheVariants.{LSL, LSR, ASR, ROR}
 use Rattle.armv7.specs.Registers.{reg_name}
 use Rattle.armv7.specs.Shifts.{style_name}
-use Rattle.sink.specs.declared.sink.Edge.TheVariants.{Start, End}
 use Rattle.sink.specs.declared.sink.Span.TheVariants.{Register}
-use Rattle.sink.specs.Items.{Item, edge, text_items}
+use Rattle.sink.specs.Items.{Item, text_items, within}
 
 -- a text that stands only under a flag
 abbrev pub flagged : Bool → List ℕ → List ℕ
@@ -18,7 +17,7 @@ flagged b t = cond b t []
 
 -- a name in a register span
 abbrev pub spanned : List ℕ → List Item
-spanned name = edge Start Register ∷ (text_items name ++ edge End Register ∷ [])
+spanned name = within Register (text_items name)
 
 abbrev pub reg_items : Reg → List Item
 reg_items r = spanned (reg_name r)

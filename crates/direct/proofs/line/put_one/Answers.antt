@@ -2,14 +2,14 @@ use Rattle.std.proofs.Common.{◌≡◌, [], ◌∷◌, ◌++◌, codes, sym, ap
 use Rattle.armv7.specs.declared.reg.Reg.{Reg}
 use Rattle.sink.specs.declared.sink.Edge.TheVariants.{Start, End}
 use Rattle.sink.specs.declared.sink.Span.TheVariants.{Register}
-use Rattle.sink.specs.Items.{edge, text_items}
+use Rattle.sink.specs.Items.{edge, within, text_items}
 use Rattle.visitor.specs.Texts.{reg_items}
 use Rattle.lines.specs.Forms.{suffix_text}
 use Rattle.lines.specs.Lines.{suffix, stack_name, word_items, behind_word, one_row}
 use Rattle.direct.proofs.Chain.{both, in_span, renamed}
 use Rattle.direct.proofs.line.put_one.Goals as goal
 
-pieces : (r : Reg) → text_items (codes " {") ++ ((edge Start Register ∷ (reg_items r ++ edge End Register ∷ [])) ++ text_items (codes "}")) ≡ behind_word (one_row r ∷ [])
+pieces : (r : Reg) → text_items (codes " {") ++ (within Register (reg_items r) ++ text_items (codes "}")) ≡ behind_word (one_row r ∷ [])
 pieces r =
     ap (λ l. text_items (codes " {") ++ (edge Start Register ∷ l)) (append_assoc (reg_items r) (edge End Register ∷ []) (text_items (codes "}"))) ∙ ap (λ l. text_items (codes " ") ++ l) (sym (append-nil (one_row r)))
 

@@ -2,9 +2,8 @@ use Rattle.std.proofs.Common.{◌≡◌, [], ◌∷◌, ◌++◌, codes, sym, ap
 use Rattle.armv7.specs.declared.reg.Reg.{Reg}
 use Rattle.sink.specs.declared.sink.Edge.TheVariants.{Start, End}
 use Rattle.sink.specs.declared.sink.Span.TheVariants.{Register}
-use Rattle.sink.specs.Items.{edge, text_items}
+use Rattle.sink.specs.Items.{edge, text_items, within}
 use Rattle.sink.proofs.Chain.{both, stop}
-use Rattle.text.specs.Spans.{within}
 use Rattle.visitor.specs.Texts.{reg_items}
 use Rattle.visitor.proofs.Pieces.{renamed}
 use Rattle.lines.specs.Lines.{behind_word, one_row}
