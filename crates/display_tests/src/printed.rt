@@ -1,13 +1,14 @@
-// Worked lines.
+// Worked lines, of each form.
 use armv7::{CReg, ConditionCode, Instruction, Opcode, Operand, Reg, RegShift};
+use direct::print_text;
 use display::visit_inst;
 use measure::measure;
-use sink::TextSink;
+use sink::{LINE_ROOM, TextSink};
 use std::test::Fail;
 
 const NONE: Operand = Operand::Nothing;
 
-const LINES: [(ConditionCode, Opcode, [Operand; 4], &[u8]); 12] = [
+pub(crate) const LINES: [(ConditionCode, Opcode, [Operand; 4], &[u8]); 14] = [
     (
         ConditionCode::AL,
         Opcode::LDM(true, false, false, false),
@@ -54,6 +55,17 @@ const LINES: [(ConditionCode, Opcode, [Operand; 4], &[u8]); 12] = [
     ),
     (
         ConditionCode::AL,
+        Opcode::STR,
+        [
+            Operand::Reg(Reg::R3),
+            Operand::RegDerefPreindexOffset(Reg::R13, 4, false, true),
+            NONE,
+            NONE,
+        ],
+        b"push {r3}",
+    ),
+    (
+        ConditionCode::AL,
         Opcode::LDR,
         [
             Operand::Reg(Reg::R3),
@@ -80,6 +92,12 @@ const LINES: [(ConditionCode, Opcode, [Operand; 4], &[u8]); 12] = [
         Opcode::CPS(false),
         [Operand::Imm12(3), Operand::Imm12(0x13), NONE, NONE],
         b"cpsie if, #0x13",
+    ),
+    (
+        ConditionCode::AL,
+        Opcode::SETEND,
+        [Operand::Imm12(1), NONE, NONE, NONE],
+        b"setend be",
     ),
     (
         ConditionCode::AL,
@@ -112,14 +130,16 @@ const LINES: [(ConditionCode, Opcode, [Operand; 4], &[u8]); 12] = [
     ),
 ];
 
-// Is the instruction printed as this text, and measured as that long?
+// Is the instruction printed as this text in both ways, and measured as that long?
 fn has_line(instruction: &Instruction, text: &[u8]) -> bool {
-    let mut buf = [0u8; 300];
-    let mut out = TextSink::new(&mut buf);
-    let printed = visit_inst(instruction, &mut out).is_ok();
-    let size = out.end();
-    let measured = matches!(measure(instruction), Ok(n) if n == size);
-    printed && measured && size == text.len() && buf.starts_with(text)
+    let mut memory = [0u8; LINE_ROOM];
+    let mut out = TextSink::new(&mut memory);
+    let visited = visit_inst(instruction, &mut out).is_ok() && out.text() == text;
+    let mut memory = [0u8; LINE_ROOM];
+    let mut out = TextSink::new(&mut memory);
+    let composed = print_text(instruction, &mut out).is_ok() && out.text() == text;
+    let measured = matches!(measure(instruction), Ok(n) if n == text.len());
+    visited && composed && measured
 }
 
 #[test]

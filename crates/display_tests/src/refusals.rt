@@ -1,9 +1,10 @@
 // Refusals 3 to 8, at each place that can have them.
 use armv7::{ConditionCode, Fault, Instruction, Opcode, Operand, Place, Reg, RegShift};
+use direct::print_text;
 use display::visit_inst;
 use lines::admit;
 use measure::measure;
-use sink::TextSink;
+use sink::{LINE_ROOM, TextSink};
 use std::test::Fail;
 use writer::write_operand;
 
@@ -99,14 +100,15 @@ fn told(fault: Fault) -> (u8, u8) {
     (fault.number(), fault.place())
 }
 
-// Do the checks, the printer and the measure refuse it with this number and place, and is nothing written?
+// Do the checks, both ways of printing and the measure refuse it with this number and place, and is nothing written?
 fn is_refused(instruction: &Instruction, why: (u8, u8)) -> bool {
-    let mut buf = [0u8; 300];
-    let mut out = TextSink::new(&mut buf);
-    let printed = matches!(visit_inst(instruction, &mut out), Err(fault) if told(fault) == why);
+    let mut memory = [0u8; LINE_ROOM];
+    let mut out = TextSink::new(&mut memory);
+    let visited = matches!(visit_inst(instruction, &mut out), Err(fault) if told(fault) == why);
+    let composed = matches!(print_text(instruction, &mut out), Err(fault) if told(fault) == why);
     let admitted = matches!(admit(instruction), Err(fault) if told(fault) == why);
     let measured = matches!(measure(instruction), Err(fault) if told(fault) == why);
-    printed && admitted && measured && out.end() == 0
+    visited && composed && admitted && measured && out.end() == 0
 }
 
 #[test]

@@ -1,8 +1,10 @@
 // Sinks with a byte too little, just enough, and a byte too much.
+use crate::printed::LINES;
 use armv7::{ConditionCode, Fault, Instruction, Opcode, Operand, Reg};
+use direct::print_text;
 use display::visit_inst;
 use measure::measure;
-use sink::{Edge, Mark, MarkSink, Span, TextSink};
+use sink::{Edge, LINE_ROOM, Mark, MarkSink, Span, TextSink};
 
 // The longest line.
 pub(crate) const LONGEST: Instruction = Instruction {
@@ -75,6 +77,52 @@ fn written(instruction: &Instruction, buf: &mut [u8]) -> (Result<(), Fault>, usi
     let mut out = TextSink::new(buf);
     let answer = visit_inst(instruction, &mut out);
     (answer, out.end())
+}
+
+fn composed(instruction: &Instruction, buf: &mut [u8]) -> (Result<(), Fault>, usize) {
+    let mut out = TextSink::new(buf);
+    let answer = print_text(instruction, &mut out);
+    (answer, out.end())
+}
+
+// More memory than any of the rooms.
+const MEMORY: usize = 400;
+
+// Do both ways print a line of this size alike in this room: the same answer and text, and nothing past the text?
+fn is_printed_alike(instruction: &Instruction, size: usize, room: usize) -> bool {
+    let room = room.min(MEMORY);
+    let answer = if room < size {
+        Err(Fault::SinkFull)
+    } else {
+        Ok(())
+    };
+    let held = (answer, size.min(room));
+    let mut visited = [b'-'; MEMORY];
+    let mut direct = [b'-'; MEMORY];
+    written(instruction, &mut visited[..room]) == held
+        && composed(instruction, &mut direct[..room]) == held
+        && direct == visited
+        && direct.iter().skip(held.1).all(|b| *b == b'-')
+}
+
+// Rooms about the size of the line, and about the least in which it is composed right in the memory.
+fn is_printed_alike_in_each_room(instruction: &Instruction, size: usize) -> bool {
+    let short = size.saturating_sub(1);
+    [0, short, size, LINE_ROOM - 1, LINE_ROOM, LINE_ROOM + 1]
+        .iter()
+        .all(|room| is_printed_alike(instruction, size, *room))
+}
+
+#[test]
+fn both_ways_print_alike_in_each_room(rt: HostRuntime) {
+    assert!(rt; is_printed_alike_in_each_room(&LONGEST, 285));
+    for (condition, opcode, operands, text) in LINES {
+        let instruction = Instruction {
+            condition,
+            ..Instruction::plain(opcode, operands)
+        };
+        assert!(rt; is_printed_alike_in_each_room(&instruction, text.len()));
+    }
 }
 
 #[test]
