@@ -7,7 +7,7 @@ ghost use Rattle.lines.specs.Admission.{refused};
 ghost use Rattle.lines.specs.Lines.{line};
 
 use armv7::{Fault, Instruction};
-use direct::print_text;
+use composer::print_text;
 use sink::TextSink;
 
 const MAX_INSTRUCTION_LEN: usize = 512;

@@ -37,7 +37,7 @@ fn write_plain<T: DisplaySink>(
     write_operands(reached, out)
 }
 
-// Any line, by its form. Not inline: by itself, it does not burden the lines that are nothing but operands.
+// Any line, by its form. Not inline: inline, it makes plain lines slower.
 #[inline(never)]
 fn write_formed<T: DisplaySink>(instruction: &Instruction, out: &mut T) -> Result<(), Fault>
     ensures { PrintedUnless T.meaning T.kept (refused instruction.now) (line instruction.now) out.old (outcome result) out.new }

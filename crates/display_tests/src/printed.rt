@@ -1,6 +1,6 @@
 // Worked lines, of each form.
 use armv7::{CReg, ConditionCode, Instruction, Opcode, Operand, Reg, RegShift};
-use direct::print_text;
+use composer::print_text;
 use display::visit_inst;
 use measure::measure;
 use sink::{LINE_ROOM, TextSink};

@@ -1,6 +1,6 @@
 // Refusals 3 to 8, at each place that can have them.
 use armv7::{ConditionCode, Fault, Instruction, Opcode, Operand, Place, Reg, RegShift};
-use direct::print_text;
+use composer::print_text;
 use display::visit_inst;
 use lines::admit;
 use measure::measure;

@@ -1,7 +1,7 @@
 // Sinks with a byte too little, just enough, and a byte too much.
 use crate::printed::LINES;
 use armv7::{ConditionCode, Fault, Instruction, Opcode, Operand, Reg};
-use direct::print_text;
+use composer::print_text;
 use display::visit_inst;
 use measure::measure;
 use sink::{Edge, LINE_ROOM, Mark, MarkSink, Span, TextSink};

@@ -1,4 +1,4 @@
-pub mod Harmless
+pub mod Never
 pub mod Lowest
 pub mod Numbers
 pub mod Shown

@@ -34,9 +34,9 @@ abbrev pub reached_refused : ℕ → List Operand → Option Refusal
 reached_refused place [] = None
 reached_refused place (o ∷ os) = cond (no_more (shape o)) None (first_of (operand_refused place o) (reached_refused (suc place) os))
 
--- an operand that is refused nowhere
-abbrev pub Harmless : Operand → Type 0
-Harmless o = (place : ℕ) → cond (no_more (shape o)) None (operand_refused place o) ≡ None
+-- an operand that is missing, or refused at no place
+abbrev pub IsNeverRefused : Operand → Type 0
+IsNeverRefused o = (place : ℕ) → cond (no_more (shape o)) None (operand_refused place o) ≡ None
 
 -- the operands have not the cases that the opcode asks for
 abbrev pub misshapen : Option Refusal

@@ -1,5 +1,6 @@
 // Which instructions are printed, and what their lines show: the checks, in their order.
-ghost use Rattle.std.specs.Prelude.{◌≡◌, true, [], ◌∷◌, IfOk};
+ghost use Rattle.std.specs.Prelude.{◌≡◌, [], ◌∷◌, IfOk};
+ghost use Rattle.std.specs.Bool.{OnTrue};
 ghost use Rattle.opcode.specs.Forms.{block, it, cps, setend, plain, coprocessor};
 ghost use Rattle.sink.specs.Outcome.{outcome};
 ghost use Rattle.kind.specs.Kinds.{optional, suffixes_of, one_form};
@@ -148,8 +149,8 @@ fn shows_own(instruction: &Instruction) -> bool
 #[inline(always)]
 pub fn is_plain(instruction: &Instruction) -> bool
     ensures value { result ≡ shows_operands instruction.now }
-    ensures refusal { result ≡ true → refused instruction.now ≡ reached_refused 0 (four instruction.now) }
-    ensures shown { result ≡ true → parts instruction.now ≡ own_parts instruction.now }
+    ensures refusal { OnTrue result (refused instruction.now ≡ reached_refused 0 (four instruction.now)) }
+    ensures shown { OnTrue result (parts instruction.now ≡ own_parts instruction.now) }
 {
     shows_own(instruction)
 }

@@ -1,10 +1,11 @@
 // The operands of an instruction, and which of them have no text.
-ghost use Rattle.std.specs.Prelude.{◌≡◌, false, IfOk};
+ghost use Rattle.std.specs.Prelude.{◌≡◌, IfOk};
+ghost use Rattle.std.specs.Bool.{OnFalse};
 ghost use Rattle.armv7.specs.Faults.{place_index};
 ghost use Rattle.sink.specs.Outcome.{outcome};
 ghost use Rattle.visitor.specs.Operands.{operand_refused};
 ghost use Rattle.visitor.specs.Shapes.{shape, no_more as no_operand_there};
-ghost use Rattle.lines.specs.Admission.{Harmless, reached_refused};
+ghost use Rattle.lines.specs.Admission.{IsNeverRefused, reached_refused};
 ghost use Rattle.lines.specs.Lines.{all_of, reached};
 
 use crate::form::Reached;
@@ -53,7 +54,7 @@ pub fn admit_reached(operands: &[Operand; 4]) -> Result<Reached<'_>, Fault>
 // Is it of a kind of which some are refused where they are reached?
 #[inline(always)]
 fn may_be_refused(operand: Operand) -> bool
-    ensures { result ≡ false → Harmless operand }
+    ensures { OnFalse result (IsNeverRefused operand) }
 {
     matches!(
         operand,
@@ -73,7 +74,7 @@ fn admit_each(operands: &[Operand; 4]) -> Result<(), Fault>
     Ok(())
 }
 
-// The same of the operands by themselves.
+// The refusal of the operands reached, if there is any. Their kinds are tested first, which settles it for most instructions.
 #[inline(always)]
 pub fn admit_operands(operands: &[Operand; 4]) -> Result<(), Fault>
     ensures refusal { outcome result ≡ reached_refused 0 (all_of operands.now) }

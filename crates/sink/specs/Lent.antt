@@ -23,6 +23,12 @@ lent_bits xs = omega (arith, length-take (2 ^ 64 - 1) xs)
 pub filled_none : {A : Type 0} (xs : List A) (n : ℕ) → Filled xs n xs n
 filled_none xs n = record { grows = omega arith; size = refl; past = refl }
 
+-- past a later end, memory that stayed past an earlier one
+pub still_past : {A : Type 0} (xs ys : List A) (k j : ℕ) → k ≤ j → drop k ys ≡ drop k xs → drop j ys ≡ drop j xs
+still_past xs ys k j h e =
+    let apart : k + (j - k) ≡ j = omega arith in
+    ap (λ i. drop i ys) (sym apart) ∙ sym (drop-drop (j - k) k ys) ∙ ap (drop (j - k)) e ∙ drop-drop (j - k) k xs ∙ ap (λ i. drop i xs) apart
+
 pub filled_twice : {A : Type 0} {xs ys zs : List A} {n k j : ℕ} → Filled xs n ys k → Filled ys k zs j → Filled xs n zs j
 filled_twice {xs} {ys} {zs} {n} {k} {j} f g = record {
   grows = omega arith;
@@ -35,6 +41,4 @@ filled_twice {xs} {ys} {zs} {n} {k} {j} f g = record {
     short h = drop_all j ys (omega arith) ∙ sym (drop_all j xs (omega arith))
 
     long : k ≤ j → drop j ys ≡ drop j xs
-    long h =
-        let apart : k + (j - k) ≡ j = omega arith in
-        ap (λ i. drop i ys) (sym apart) ∙ sym (drop-drop (j - k) k ys) ∙ ap (drop (j - k)) f.past ∙ drop-drop (j - k) k xs ∙ ap (λ i. drop i xs) apart
+    long h = still_past xs ys k j h f.past

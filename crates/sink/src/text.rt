@@ -1,5 +1,5 @@
 // A sink that holds text in lent bytes, and no marks.
-ghost use Rattle.std.specs.Prelude.{◌≡◌, ◌↔◌, ◌-◌, ◌≤◌, cond, [], length, take, IfSome, IsSome, IsTrue, MatchOption};
+ghost use Rattle.std.specs.Prelude.{◌≡◌, ◌↔◌, ◌-◌, ◌≤◌, if◌then◌else◌, [], length, take, IfSome, IsSome, IsTrue, MatchOption};
 ghost use Rattle.sink.specs.Composed.{Composed};
 ghost use Rattle.sink.specs.Meaning.{with_room, room as room_of};
 ghost use Rattle.sink.specs.Printed.{Printed};
@@ -28,7 +28,7 @@ fn compose_in<L: Line>(memory: &mut [u8], used: &mut usize, line: &L) -> bool
     requires { used.old ≤ length memory.old }
     ensures answer { IsTrue result ↔ (LINE_ROOM ≤ length memory.old - used.old) }
     ensures size { length memory.new ≡ length memory.old }
-    ensures composed { Composed (cond result (L.items line.now) []) memory.old used.old memory.new used.new }
+    ensures composed { Composed (if result then L.items line.now else []) memory.old used.old memory.new used.new }
 {
     let Some(written) = compose_first(&mut memory[*used..], line) else {
         return false;
@@ -68,7 +68,7 @@ impl<'a> TextSink<'a> {
     #[inline(always)]
     pub fn print_line<L: Line>(&mut self, line: &L) -> bool
         ensures answer { IsTrue result ↔ (LINE_ROOM ≤ room_of (text_meaning self.old)) }
-        ensures printed { Printed text_meaning TextKept (cond result (L.items line.now) []) self.old None self.new }
+        ensures printed { Printed text_meaning TextKept (if result then L.items line.now else []) self.old None self.new }
     {
         compose_in(self.buf, &mut self.len, line)
     }

@@ -2,7 +2,7 @@
 use crate::options::{Options, Way};
 use armv7::Instruction;
 use buffer::InstructionTextBuffer;
-use direct::print_text;
+use composer::print_text;
 use measure::measure;
 use page::Page;
 use sink::TextSink;

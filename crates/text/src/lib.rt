@@ -7,7 +7,7 @@ mod piece;
 
 pub use list::write_list;
 pub use number::{
-    HEX_DIGITS, fill_prefixed, write_branch, write_decimal, write_option, write_prefixed,
+    HEX_DIGITS, prefixed_digits, write_branch, write_decimal, write_option, write_prefixed,
 };
 pub use piece::{
     write_banked_reg, write_banked_spsr, write_either, write_flagged, write_reg, write_spanned,

@@ -3,7 +3,7 @@ use crate::difference::{Difference, Seen};
 use crate::line::{Draft, Line, Stored};
 use crate::repair::repaired;
 use armv7::{Fault, Instruction, Operand, Place};
-use direct::print_text;
+use composer::print_text;
 use display::visit_inst;
 use kind::{Kind, kind_by};
 use sink::{Mark, MarkSink, TextSink};

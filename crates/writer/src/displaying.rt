@@ -169,7 +169,7 @@ impl<T: DisplaySink> OperandVisitor for DisplayingOperandVisitor<'_, T> {
     }
 }
 
-// Any operand, by a visit. Not inline: by itself, it does not burden the operands that need none.
+// Any operand, by a visit. Not inline: inline, it makes registers and numbers slower.
 #[inline(never)]
 fn write_visited<T: DisplaySink>(out: &mut T, operand: &Operand) -> Result<(), Fault>
     ensures { PrintedUnless T.meaning T.kept (operand_refused 0 operand.now) (operand_items operand.now) out.old (outcome result) out.new }

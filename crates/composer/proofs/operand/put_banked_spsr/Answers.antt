@@ -1,0 +1,11 @@
+use Rattle.std.proofs.Common.{◌++◌, codes, ap}
+use Rattle.armv7.specs.Banks.{bank_name}
+use Rattle.sink.specs.declared.sink.Span.TheVariants.{Register}
+use Rattle.sink.specs.Items.{text_items}
+use Rattle.composer.proofs.Chain.{in_span, renamed, texts}
+use Rattle.composer.proofs.operand.put_banked_spsr.Goals as goal
+
+pub returns-clause-composed : goal.returns-clause-composed
+returns-clause-composed c =
+    let bank = bank_name c.args.bank in
+    in_span Register (text_items (codes "spsr_" ++ bank)) (texts (codes "spsr_") bank c.put-at.ensures.composed (renamed (ap text_items c.name.ensures.value) c.put.ensures.composed))
