@@ -1,5 +1,5 @@
 -- Items that are composed one row after the other. Assumes nothing.
-use Rattle.std.proofs.Common.{◌≡◌, ℕ, ◌+◌, ◌-◌, ◌≤◌, List, [], ◌∷◌, ◌++◌, length, take, drop, sym, refl, ap, ap₂, ◌∙◌, subst, append_assoc, append-nil, arith, drop-drop}
+use Rattle.std.proofs.Common.{◌≡◌, ℕ, ◌+◌, List, [], ◌∷◌, ◌++◌, length, take, drop, sym, refl, ap, ap₂, ◌∙◌, subst, append_assoc, append-nil, arith}
 use mathlib.Core.List.{map-append}
 use Rattle.sink.specs.declared.sink.Edge.TheVariants.{End}
 use Rattle.sink.specs.declared.sink.Span.{Span}

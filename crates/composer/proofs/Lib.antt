@@ -1,3 +1,3 @@
 mod Chain
-mod Operands
 mod Fallback
+mod Operands

@@ -1,5 +1,5 @@
 -- Operands that are put one after the other, up to the first Nothing. Assumes nothing.
-use Rattle.std.proofs.Common.{◌≡◌, ℕ, suc, ◌+◌, ◌<◌, ◌≤◌, Bool, true, false, cond, List, [], ◌∷◌, ◌++◌, All, map, length, get_or, take, drop, None, codes, sym, refl, ap, ◌∙◌, append_assoc, add-one, arith, drop-cons}
+use Rattle.std.proofs.Common.{◌≡◌, ℕ, suc, ◌+◌, ◌<◌, ◌≤◌, Bool, true, false, cond, List, [], ◌∷◌, ◌++◌, All, map, length, take, drop, None, codes, sym, refl, ap, ◌∙◌, append_assoc, add-one, arith, drop-cons}
 use Rattle.std.proofs.lemmas.List.{drop_all, take_all}
 use Rattle.armv7.specs.declared.operand.Operand.{Operand}
 use Rattle.armv7.specs.declared.operand.Operand.TheVariants.{Reg as One}
@@ -7,10 +7,10 @@ use Rattle.armv7.specs.declared.reg.Reg.TheVariants.{R0}
 use Rattle.sink.specs.Items.{Item, text_items}
 use Rattle.visitor.specs.Operands.{operand_items, operand_refused}
 use Rattle.visitor.specs.Shapes.{shape, no_more}
-use Rattle.visitor.specs.Texts.{followed, decimal}
+use Rattle.visitor.specs.Texts.{followed}
 use Rattle.lines.specs.Admission.{HasText}
-use Rattle.lines.specs.Lines.{reached, behind_word, code_row, code_rows}
-use Rattle.display.proofs.Followed.{at, followed_append}
+use Rattle.lines.specs.Lines.{reached, behind_word}
+use Rattle.display.proofs.Followed.{at}
 
 -- what is still to be put, from a place on
 abbrev pub ahead : List Operand → ℕ → List Item
@@ -55,16 +55,6 @@ all_reached (o ∷ os) t = ap (λ b. cond b [] (o ∷ reached os)) (there o (t 0
 -- an operand that is not missing, and those behind it
 pub first_row : (os rest : List Operand) → at os 0 ∷ rest ≡ os → false ≡ no_more (shape (at os 0)) → text_items (codes " ") ++ (operand_items (at os 0) ++ followed (map operand_items (reached rest))) ≡ behind_word (map operand_items (reached os))
 first_row os rest e f = ap (λ b. behind_word (map operand_items (cond b [] (at os 0 ∷ reached rest)))) f ∙ ap (λ l. behind_word (map operand_items (reached l))) e
-
--- the codes of a coprocessor form, and the operands between them
-abbrev pub codes_first : ℕ → List ℕ → List Item
-codes_first a bs = text_items (codes " p") ++ (text_items (decimal a) ++ followed (map code_row bs))
-
-pub codes_around : (a : ℕ) (bs : List ℕ) (os : List (List Item)) (cs : List (List Item)) → codes_first a bs ++ (followed os ++ followed cs) ≡ behind_word (code_rows (a ∷ bs) ++ (os ++ cs))
-codes_around a bs os cs =
-    let second = map code_row bs in
-    ap (λ l. text_items (codes " p") ++ l) (append_assoc (text_items (decimal a)) (followed second) (followed os ++ followed cs))
-    ∙ ap (λ l. text_items (codes " p") ++ (text_items (decimal a) ++ l)) (ap (λ l. followed second ++ l) (sym (followed_append os cs)) ∙ sym (followed_append second (os ++ cs)))
 
 -- the first of four, and the other three
 pub first_four : (os : List Operand) → length os ≡ 4 → at os 0 ∷ take 3 (drop 1 os) ≡ os

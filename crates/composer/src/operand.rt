@@ -103,7 +103,7 @@ fn put_postindex_offset(
 
 // Any operand. Not inline: most are registers and numbers, which `put_operand` puts itself.
 #[inline(never)]
-fn put_other(memory: &mut [u8; LINE_ROOM], at: usize, operand: &Operand) -> usize
+fn put_any(memory: &mut [u8; LINE_ROOM], at: usize, operand: &Operand) -> usize
     requires { at ≤ 302 }
     ensures bound { result ≤ at + 82 }
     ensures composed { Composed (operand_items operand.now) memory.old at memory.new result }
@@ -159,7 +159,7 @@ fn put_operand(memory: &mut [u8; LINE_ROOM], at: usize, operand: &Operand) -> us
         Operand::Reg(reg) => put_reg(memory, at, reg),
         Operand::Imm12(imm) => put_imm12(memory, at, imm),
         Operand::Imm32(imm) => put_imm32(memory, at, imm),
-        _ => put_other(memory, at, operand),
+        _ => put_any(memory, at, operand),
     }
 }
 

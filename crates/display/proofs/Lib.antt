@@ -1,3 +1,4 @@
+pub mod Behind
 pub mod Followed
 pub mod Modes
 pub mod Unless

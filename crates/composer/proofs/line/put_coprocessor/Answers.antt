@@ -5,7 +5,8 @@ use Rattle.visitor.specs.Operands.{operand_items}
 use Rattle.visitor.specs.Texts.{followed}
 use Rattle.lines.specs.Lines.{suffixed, word_items, code_row}
 use Rattle.composer.proofs.Chain.{both, renamed}
-use Rattle.composer.proofs.Operands.{all_reached, codes_first, codes_around}
+use Rattle.display.proofs.Behind.{codes_first, codes_around}
+use Rattle.composer.proofs.Operands.{all_reached}
 use Rattle.composer.proofs.line.put_coprocessor.Goals as goal
 
 pub returns-clause-composed : goal.returns-clause-composed

@@ -1,32 +1,26 @@
-use Rattle.std.proofs.Common.{◌≡◌, [], ◌∷◌, ◌++◌, codes, sym, ap, ◌∙◌, append_assoc, append-nil}
-use Rattle.armv7.specs.declared.reg.Reg.{Reg}
-use Rattle.sink.specs.declared.sink.Edge.TheVariants.{Start, End}
+use Rattle.std.proofs.Common.{codes}
 use Rattle.sink.specs.declared.sink.Span.TheVariants.{Register}
-use Rattle.sink.specs.Items.{edge, text_items, within}
+use Rattle.sink.specs.Items.{text_items, within}
 use Rattle.sink.proofs.Chain.{both, stop}
 use Rattle.visitor.specs.Texts.{reg_items}
 use Rattle.visitor.proofs.Pieces.{renamed}
-use Rattle.lines.specs.Lines.{behind_word, one_row}
+use Rattle.display.proofs.Behind.{one_around}
 use Rattle.display.proofs.rows.write_stack_one.Goals as goal
-
-pieces : (r : Reg) → text_items (codes " {") ++ (within Register (reg_items r) ++ text_items (codes "}")) ≡ behind_word (one_row r ∷ [])
-pieces r =
-    ap (λ l. text_items (codes " {") ++ (edge Start Register ∷ l)) (append_assoc (reg_items r) (edge End Register ∷ []) (text_items (codes "}"))) ∙ ap (λ l. text_items (codes " ") ++ l) (sym (append-nil (one_row r)))
 
 pub returns-in_err-write_text : goal.returns-in_err-write_text
 returns-in_err-write_text g c =
     let laws = g.T.DisplaySink.laws in
-    renamed (pieces c.args.reg) (stop laws (text_items (codes " {")) _ c.from_residual.result c.in_err-write_text.field-0.0 c.in_err-write_text.ensures.printed c.from_residual.ensures.1)
+    renamed (one_around c.args.reg) (stop laws (text_items (codes " {")) _ c.from_residual.result c.in_err-write_text.field-0.0 c.in_err-write_text.ensures.printed c.from_residual.ensures.1)
 
 pub returns-in_err-write_twice_spanned : goal.returns-in_err-write_twice_spanned
 returns-in_err-write_twice_spanned g c =
     let laws = g.T.DisplaySink.laws in
     let r = c.from_residual-in_err-write_twice_spanned in
-    renamed (pieces c.args.reg) (both laws (text_items (codes " {")) _ c.in_ok-write_text.ensures.printed
+    renamed (one_around c.args.reg) (both laws (text_items (codes " {")) _ c.in_ok-write_text.ensures.printed
     (stop laws (within Register (reg_items c.args.reg)) (text_items (codes "}")) r.result c.in_err-write_twice_spanned.field-0.0 c.in_err-write_twice_spanned.ensures.printed r.ensures.1))
 
 pub returns : goal.returns
 returns g c =
     let laws = g.T.DisplaySink.laws in
-    renamed (pieces c.args.reg) (both laws (text_items (codes " {")) _ c.in_ok-write_text.ensures.printed
+    renamed (one_around c.args.reg) (both laws (text_items (codes " {")) _ c.in_ok-write_text.ensures.printed
     (both laws (within Register (reg_items c.args.reg)) _ c.in_ok-write_twice_spanned.ensures.printed c.write_text-2.ensures.printed))
