@@ -2,20 +2,20 @@
 use Rattle.std.proofs.Common.{◌≡◌, ℕ, ◌-◌, ◌≤◌, cond, List, [], ◌++◌, length, Some, None, Option, sym, refl, ap, ◌∙◌, subst, arith, le-ltb}
 use Rattle.armv7.specs.Faults.{Refusal, refused_with, no_operand}
 use Rattle.sink.specs.Items.{Item, bytes, fitting}
-use Rattle.sink.specs.Meaning.{Meaning, with_room, room, Laws}
+use Rattle.sink.specs.Meaning.{with_room, room, SinkOf}
 use Rattle.sink.specs.Outcome.{full_below}
 use Rattle.sink.proofs.Rows.{fitting_all}
 use Rattle.visitor.specs.Visits.{PrintedUnless}
 use Rattle.buffer.specs.Held.{formatted}
 
 -- the answer is the refusal, if there is one, and the text is the line, if there is none
-pub record Held {S : Type 0} (meaning : S → Meaning) (kept : S → S → Type 0) (f : Option Refusal) (is : List Item) (before : S) (answer : Option Refusal) (after : S) : Type 0 where
+pub record Held {S : Type 0} (sink : SinkOf S) (f : Option Refusal) (is : List Item) (before : S) (answer : Option Refusal) (after : S) : Type 0 where
   pub told : answer ≡ f
   pub text : (meaning after).text ≡ formatted f is
   pub rest : kept before after
 
-module _ {S : Type 0} (meaning : S → Meaning) (kept : S → S → Type 0) (laws : Laws meaning kept) (is : List Item) (n m : ℕ) (s t : S) (o : Option Refusal) where
-  pub held : (f : Option Refusal) → meaning s ≡ with_room n m → (f ≡ None → length (bytes is) ≤ n) → PrintedUnless meaning kept f is s o t → Held meaning kept f is s o t
+module _ {S : Type 0} (sink : SinkOf S) (is : List Item) (n m : ℕ) (s t : S) (o : Option Refusal) where
+  pub held : (f : Option Refusal) → meaning s ≡ with_room n m → (f ≡ None → length (bytes is) ≤ n) → PrintedUnless sink f is s o t → Held sink f is s o t
   held None empty short p =
       let all : n ≡ n - 0 = omega arith in
       let fits = short refl in
@@ -33,5 +33,5 @@ module _ {S : Type 0} (meaning : S → Meaning) (kept : S → S → Type 0) (law
   held (Some why) empty short p = record {
     told = p.told;
     text = ap (λ u. (meaning u).text) p.still ∙ ap (λ k. k.text) empty;
-    rest = subst (kept s) (sym p.still) (laws.stays s);
+    rest = subst (kept s) (sym p.still) (sink.stays s);
   }

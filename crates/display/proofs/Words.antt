@@ -7,7 +7,7 @@ use Rattle.armv7.specs.Faults.{refusal}
 use Rattle.sink.specs.declared.sink.Edge.TheVariants.{Start, End}
 use Rattle.sink.specs.declared.sink.Span.TheVariants.{Opcode}
 use Rattle.sink.specs.Items.{edge, text_items}
-use Rattle.sink.specs.Meaning.{Meaning, Laws, marked}
+use Rattle.sink.specs.Meaning.{SinkOf, marked}
 use Rattle.sink.specs.Outcome.{outcome}
 use Rattle.sink.specs.Printed.{Printed}
 use Rattle.sink.proofs.Chain.{both, stop, edged}
@@ -23,9 +23,9 @@ two_letters (x ∷ y ∷ z ∷ n) e = absurd (omega arith)
 pub letters_suffix : (c : ConditionCode) (n : List ℕ) → n ≡ condition_name c → length n ≡ 2 → false ≡ eqb (condition_number c) 14 → take 1 n ++ take 1 (drop 1 n) ≡ condition_suffix c
 letters_suffix c n e l f = two_letters n l ∙ e ∙ ap (λ b. cond b [] (condition_name c)) f
 
-module _ {S : Type 0} {meaning : S → Meaning} {kept : S → S → Type 0} (laws : Laws meaning kept) (word : List ℕ) {s t u : S} where
-  pub in_word : {v : S} → meaning t ≡ marked Start Opcode (meaning s) → kept s t → Printed meaning kept (text_items word) t None u → meaning v ≡ marked End Opcode (meaning u) → kept u v → Printed meaning kept (word_items word) s None v
-  in_word a k x b l = both laws (edge Start Opcode ∷ []) _ (edged laws Start Opcode a k) (both laws (text_items word) _ x (edged laws End Opcode b l))
+module _ {S : Type 0} (sink : SinkOf S) (word : List ℕ) {s t u : S} where
+  pub in_word : {v : S} → meaning t ≡ marked Start Opcode (meaning s) → kept s t → Printed sink (text_items word) t None u → meaning v ≡ marked End Opcode (meaning u) → kept u v → Printed sink (word_items word) s None v
+  in_word a k x b l = both sink (edge Start Opcode ∷ []) _ (edged sink Start Opcode a k) (both sink (text_items word) _ x (edged sink End Opcode b l))
 
-  pub in_word_stop : {A : Type 0} (r : Result A Fault) (d : Fault) → meaning t ≡ marked Start Opcode (meaning s) → kept s t → Printed meaning kept (text_items word) t (Some (refusal d)) u → IsErrAnd r (λ y. y ≡ d) → Printed meaning kept (word_items word) s (outcome r) u
-  in_word_stop r d a k x e = both laws (edge Start Opcode ∷ []) _ (edged laws Start Opcode a k) (stop laws (text_items word) (edge End Opcode ∷ []) r d x e)
+  pub in_word_stop : {A : Type 0} (r : Result A Fault) (d : Fault) → meaning t ≡ marked Start Opcode (meaning s) → kept s t → Printed sink (text_items word) t (Some (refusal d)) u → IsErrAnd r (λ y. y ≡ d) → Printed sink (word_items word) s (outcome r) u
+  in_word_stop r d a k x e = both sink (edge Start Opcode ∷ []) _ (edged sink Start Opcode a k) (stop sink (text_items word) (edge End Opcode ∷ []) r d x e)

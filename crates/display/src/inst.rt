@@ -1,7 +1,6 @@
 // The line of an instruction.
-ghost use Rattle.sink.specs.Outcome.{outcome};
-ghost use Rattle.sink.specs.Printed.{Printed};
-ghost use Rattle.visitor.specs.Visits.{PrintedUnless};
+ghost use Rattle.sink.specs.Printed.{Prints};
+ghost use Rattle.visitor.specs.Visits.{PrintsUnless};
 ghost use Rattle.lines.specs.Admission.{refused};
 ghost use Rattle.lines.specs.Forms.{parts_of};
 ghost use Rattle.lines.specs.Lines.{line_of, line};
@@ -18,7 +17,7 @@ fn write_line<T: DisplaySink>(
     instruction: &Instruction,
     out: &mut T,
 ) -> Result<(), Fault>
-    ensures { Printed T.meaning T.kept (line_of (parts_of form.entry instruction.now)) out.old (outcome result) out.new }
+    ensures { Prints T.sink (line_of (parts_of form.entry instruction.now)) out.old result out.new }
 {
     write_form_word(form, instruction, out)?;
     write_rows(form, out)
@@ -31,7 +30,7 @@ fn write_plain<T: DisplaySink>(
     instruction: &Instruction,
     out: &mut T,
 ) -> Result<(), Fault>
-    ensures { Printed T.meaning T.kept (line_of (parts_of (Form.Plain reached.entry) instruction.now)) out.old (outcome result) out.new }
+    ensures { Prints T.sink (line_of (parts_of (Form.Plain reached.entry) instruction.now)) out.old result out.new }
 {
     write_own_word(instruction, out)?;
     write_operands(reached, out)
@@ -40,7 +39,7 @@ fn write_plain<T: DisplaySink>(
 // Any line, by its form. Not inline: inline, it makes plain lines slower.
 #[inline(never)]
 fn write_formed<T: DisplaySink>(instruction: &Instruction, out: &mut T) -> Result<(), Fault>
-    ensures { PrintedUnless T.meaning T.kept (refused instruction.now) (line instruction.now) out.old (outcome result) out.new }
+    ensures { PrintsUnless T.sink (refused instruction.now) (line instruction.now) out.old result out.new }
 {
     let form = admit(instruction)?;
     write_line(form, instruction, out)
@@ -49,7 +48,7 @@ fn write_formed<T: DisplaySink>(instruction: &Instruction, out: &mut T) -> Resul
 // Prints the line of an instruction that is not refused to a sink, as much of it as there is room for.
 // Kept: most lines by themselves, which are nothing but operands: so their form is never put together (docs/SPEED.md).
 pub fn visit_inst<T: DisplaySink>(instruction: &Instruction, out: &mut T) -> Result<(), Fault>
-    ensures printed_or_refused { PrintedUnless T.meaning T.kept (refused instruction.now) (line instruction.now) out.old (outcome result) out.new }
+    ensures printed_or_refused { PrintsUnless T.sink (refused instruction.now) (line instruction.now) out.old result out.new }
 {
     if is_plain(instruction) {
         let reached = admit_reached(&instruction.operands)?;

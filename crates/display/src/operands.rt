@@ -1,7 +1,6 @@
 // The operands of a line.
 ghost use Rattle.std.specs.Prelude.{map};
-ghost use Rattle.sink.specs.Outcome.{outcome};
-ghost use Rattle.sink.specs.Printed.{Printed};
+ghost use Rattle.sink.specs.Printed.{Prints};
 ghost use Rattle.visitor.specs.Operands.{operand_items};
 ghost use Rattle.visitor.specs.Texts.{followed};
 ghost use Rattle.lines.specs.Lines.{behind_word};
@@ -15,7 +14,7 @@ use writer::write_operand;
 // The operands, each behind a comma.
 #[inline(always)]
 pub(crate) fn write_followed<T: DisplaySink>(reached: Reached<'_>, out: &mut T) -> Result<(), Fault>
-    ensures { Printed T.meaning T.kept (followed (map operand_items reached.entry.operands.now)) out.old (outcome result) out.new }
+    ensures { Prints T.sink (followed (map operand_items reached.entry.operands.now)) out.old result out.new }
 {
     for operand in reached.operands {
         write_text(out, b", ")?;
@@ -27,7 +26,7 @@ pub(crate) fn write_followed<T: DisplaySink>(reached: Reached<'_>, out: &mut T) 
 // The operands, with commas between them.
 #[inline(always)]
 pub(crate) fn write_operands<T: DisplaySink>(reached: Reached<'_>, out: &mut T) -> Result<(), Fault>
-    ensures { Printed T.meaning T.kept (behind_word (map operand_items reached.entry.operands.now)) out.old (outcome result) out.new }
+    ensures { Prints T.sink (behind_word (map operand_items reached.entry.operands.now)) out.old result out.new }
 {
     let [first, operands @ ..] = reached.operands else {
         return Ok(());

@@ -2,8 +2,7 @@
 ghost use Rattle.std.specs.Prelude.{[], ◌∷◌, ◌++◌, map, codes};
 ghost use Rattle.kind.specs.Kinds.{optional};
 ghost use Rattle.sink.specs.Items.{text_items};
-ghost use Rattle.sink.specs.Outcome.{outcome};
-ghost use Rattle.sink.specs.Printed.{Printed};
+ghost use Rattle.sink.specs.Printed.{Prints};
 ghost use Rattle.visitor.specs.Texts.{list_items, followed, decimal};
 ghost use Rattle.lines.specs.Forms.{block_rows, rows_of};
 ghost use Rattle.lines.specs.Lines.{behind_word, one_row, code_row};
@@ -19,7 +18,7 @@ use writer::write_reg_wback;
 
 // The list of a pop or a push.
 pub fn write_stack_list<T: DisplaySink>(registers: u16, out: &mut T) -> Result<(), Fault>
-    ensures printed { Printed T.meaning T.kept (behind_word (list_items registers ∷ [])) out.old (outcome result) out.new }
+    ensures printed { Prints T.sink (behind_word (list_items registers ∷ [])) out.old result out.new }
 {
     write_text(out, b" ")?;
     write_list(out, registers)
@@ -27,7 +26,7 @@ pub fn write_stack_list<T: DisplaySink>(registers: u16, out: &mut T) -> Result<(
 
 // The one register of a pop or a push.
 pub(crate) fn write_stack_one<T: DisplaySink>(reg: Reg, out: &mut T) -> Result<(), Fault>
-    ensures { Printed T.meaning T.kept (behind_word (one_row reg ∷ [])) out.old (outcome result) out.new }
+    ensures { Prints T.sink (behind_word (one_row reg ∷ [])) out.old result out.new }
 {
     write_text(out, b" {")?;
     write_twice_spanned(out, reg)?;
@@ -36,7 +35,7 @@ pub(crate) fn write_stack_one<T: DisplaySink>(reg: Reg, out: &mut T) -> Result<(
 
 // The base and the list of a block transfer.
 pub fn write_block<T: DisplaySink>(block: Block, out: &mut T) -> Result<(), Fault>
-    ensures printed { Printed T.meaning T.kept (behind_word (block_rows block)) out.old (outcome result) out.new }
+    ensures printed { Prints T.sink (behind_word (block_rows block)) out.old result out.new }
 {
     write_text(out, b" ")?;
     write_reg_wback(out, block.base, block.wback)?;
@@ -47,7 +46,7 @@ pub fn write_block<T: DisplaySink>(block: Block, out: &mut T) -> Result<(), Faul
 
 // A code behind a comma, where there is one.
 fn write_code<T: DisplaySink>(code: Option<u8>, out: &mut T) -> Result<(), Fault>
-    ensures { Printed T.meaning T.kept (followed (map code_row (optional code))) out.old (outcome result) out.new }
+    ensures { Prints T.sink (followed (map code_row (optional code))) out.old result out.new }
 {
     let Some(number) = code else {
         return Ok(());
@@ -58,7 +57,7 @@ fn write_code<T: DisplaySink>(code: Option<u8>, out: &mut T) -> Result<(), Fault
 
 // The coprocessor and the code behind it.
 fn write_codes<T: DisplaySink>(numbers: Codes, out: &mut T) -> Result<(), Fault>
-    ensures { Printed T.meaning T.kept (text_items (codes " p") ++ (text_items (decimal numbers.coprocessor) ++ followed (map code_row (optional numbers.second)))) out.old (outcome result) out.new }
+    ensures { Prints T.sink (text_items (codes " p") ++ (text_items (decimal numbers.coprocessor) ++ followed (map code_row (optional numbers.second)))) out.old result out.new }
 {
     write_text(out, b" p")?;
     write_decimal(out, numbers.coprocessor)?;
@@ -71,7 +70,7 @@ fn write_coprocessor<T: DisplaySink>(
     reached: Reached<'_>,
     out: &mut T,
 ) -> Result<(), Fault>
-    ensures { Printed T.meaning T.kept (behind_word (rows_of (Form.Coprocessor codes reached.entry))) out.old (outcome result) out.new }
+    ensures { Prints T.sink (behind_word (rows_of (Form.Coprocessor codes reached.entry))) out.old result out.new }
 {
     write_codes(codes, out)?;
     write_followed(reached, out)?;
@@ -80,7 +79,7 @@ fn write_coprocessor<T: DisplaySink>(
 
 // What stands behind the word of an instruction, by its form.
 pub(crate) fn write_rows<T: DisplaySink>(form: Form<'_>, out: &mut T) -> Result<(), Fault>
-    ensures { Printed T.meaning T.kept (behind_word (rows_of form.entry)) out.old (outcome result) out.new }
+    ensures { Prints T.sink (behind_word (rows_of form.entry)) out.old result out.new }
 {
     match form {
         Form::Plain(reached) => write_operands(reached, out),

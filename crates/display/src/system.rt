@@ -2,8 +2,7 @@
 ghost use Rattle.std.specs.Prelude.{[], ◌∷◌, ◌++◌, if◌then◌else◌, codes, nat_eq};
 ghost use Rattle.armv7.specs.Conditions.{condition_name};
 ghost use Rattle.sink.specs.Items.{text_items};
-ghost use Rattle.sink.specs.Outcome.{outcome};
-ghost use Rattle.sink.specs.Printed.{Printed};
+ghost use Rattle.sink.specs.Printed.{Prints};
 ghost use Rattle.visitor.specs.Texts.{prefixed};
 ghost use Rattle.lines.specs.Codes.{mode_rows};
 ghost use Rattle.lines.specs.Lines.{behind_word, cps_letters, flag_row, setend_text};
@@ -17,7 +16,7 @@ pub(crate) fn write_it_condition<T: DisplaySink>(
     condition: ConditionCode,
     out: &mut T,
 ) -> Result<(), Fault>
-    ensures { Printed T.meaning T.kept (behind_word (text_items (condition_name condition) ∷ [])) out.old (outcome result) out.new }
+    ensures { Prints T.sink (behind_word (text_items (condition_name condition) ∷ [])) out.old result out.new }
 {
     write_text(out, b" ")?;
     write_text(out, condition.name())
@@ -25,13 +24,13 @@ pub(crate) fn write_it_condition<T: DisplaySink>(
 
 // The state that a SETEND sets.
 pub(crate) fn write_setend<T: DisplaySink>(number: u16, out: &mut T) -> Result<(), Fault>
-    ensures { Printed T.meaning T.kept (behind_word (text_items (setend_text number) ∷ [])) out.old (outcome result) out.new }
+    ensures { Prints T.sink (behind_word (text_items (setend_text number) ∷ [])) out.old result out.new }
 {
     write_either(out, number == 0, b" le", b" be")
 }
 
 fn write_cps_letters<T: DisplaySink>(flags: u16, out: &mut T) -> Result<(), Fault>
-    ensures { Printed T.meaning T.kept (text_items (cps_letters flags)) out.old (outcome result) out.new }
+    ensures { Prints T.sink (text_items (cps_letters flags)) out.old result out.new }
 {
     write_flagged(out, flags / 4 % 2 == 1, b"a")?;
     write_flagged(out, flags / 2 % 2 == 1, b"i")?;
@@ -40,7 +39,7 @@ fn write_cps_letters<T: DisplaySink>(flags: u16, out: &mut T) -> Result<(), Faul
 
 // The interrupts that a CPS switches.
 fn write_cps_flags<T: DisplaySink>(flags: u16, out: &mut T) -> Result<(), Fault>
-    ensures { Printed T.meaning T.kept (if nat_eq flags 0 then [] else text_items (codes " ") ++ text_items (cps_letters flags)) out.old (outcome result) out.new }
+    ensures { Prints T.sink (if nat_eq flags 0 then [] else text_items (codes " ") ++ text_items (cps_letters flags)) out.old result out.new }
 {
     if flags == 0 {
         return Ok(());
@@ -50,7 +49,7 @@ fn write_cps_flags<T: DisplaySink>(flags: u16, out: &mut T) -> Result<(), Fault>
 }
 
 fn write_cps_mode<T: DisplaySink>(flags: u16, mode: u16, out: &mut T) -> Result<(), Fault>
-    ensures { Printed T.meaning T.kept (text_items ((if nat_eq flags 0 then (codes " #") else (codes ", #")) ++ prefixed 4 mode)) out.old (outcome result) out.new }
+    ensures { Prints T.sink (text_items ((if nat_eq flags 0 then (codes " #") else (codes ", #")) ++ prefixed 4 mode)) out.old result out.new }
 {
     write_either(out, flags == 0, b" #", b", #")?;
     write_prefixed(out, u32::from(mode))
@@ -62,7 +61,7 @@ pub(crate) fn write_cps<T: DisplaySink>(
     mode: Option<u16>,
     out: &mut T,
 ) -> Result<(), Fault>
-    ensures { Printed T.meaning T.kept (behind_word (flag_row flags ++ mode_rows mode)) out.old (outcome result) out.new }
+    ensures { Prints T.sink (behind_word (flag_row flags ++ mode_rows mode)) out.old result out.new }
 {
     write_cps_flags(flags, out)?;
     let Some(number) = mode else {

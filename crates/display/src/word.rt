@@ -3,8 +3,7 @@ ghost use Rattle.std.specs.Prelude.{◌≡◌, ◌++◌};
 ghost use Rattle.armv7.specs.Conditions.{condition_number as number_of};
 ghost use Rattle.opcode.specs.Names.{name_of};
 ghost use Rattle.sink.specs.Items.{text_items};
-ghost use Rattle.sink.specs.Outcome.{outcome};
-ghost use Rattle.sink.specs.Printed.{Printed};
+ghost use Rattle.sink.specs.Printed.{Prints};
 ghost use Rattle.lines.specs.Forms.{suffix_text, block_letters, word_of};
 ghost use Rattle.lines.specs.Lines.{condition_suffix, suffix as suffix_of, word_items, it_letter};
 
@@ -16,7 +15,7 @@ use text::{write_flagged, write_text};
 // The condition's letters, one after the other; AL has none.
 #[inline(always)]
 fn write_condition<T: DisplaySink>(condition: ConditionCode, out: &mut T) -> Result<(), Fault>
-    ensures { Printed T.meaning T.kept (text_items (condition_suffix condition)) out.old (outcome result) out.new }
+    ensures { Prints T.sink (text_items (condition_suffix condition)) out.old result out.new }
 {
     match condition {
         ConditionCode::AL => Ok(()),
@@ -30,7 +29,7 @@ fn write_condition<T: DisplaySink>(condition: ConditionCode, out: &mut T) -> Res
 
 #[inline(always)]
 fn write_suffix<T: DisplaySink>(suffix: Suffix, out: &mut T) -> Result<(), Fault>
-    ensures { Printed T.meaning T.kept (text_items (suffix_text suffix)) out.old (outcome result) out.new }
+    ensures { Prints T.sink (text_items (suffix_text suffix)) out.old result out.new }
 {
     write_flagged(out, suffix.s, b"s")?;
     write_condition(suffix.condition, out)?;
@@ -39,7 +38,7 @@ fn write_suffix<T: DisplaySink>(suffix: Suffix, out: &mut T) -> Result<(), Fault
 
 #[inline(always)]
 fn write_mnemonic<T: DisplaySink>(name: &[u8], suffix: Suffix, out: &mut T) -> Result<(), Fault>
-    ensures { Printed T.meaning T.kept (text_items (name.now ++ suffix_text suffix)) out.old (outcome result) out.new }
+    ensures { Prints T.sink (text_items (name.now ++ suffix_text suffix)) out.old result out.new }
 {
     write_text(out, name)?;
     write_suffix(suffix, out)
@@ -48,7 +47,7 @@ fn write_mnemonic<T: DisplaySink>(name: &[u8], suffix: Suffix, out: &mut T) -> R
 // A mnemonic with its suffix.
 #[inline(always)]
 pub fn write_word<T: DisplaySink>(name: &[u8], suffix: Suffix, out: &mut T) -> Result<(), Fault>
-    ensures printed { Printed T.meaning T.kept (word_items (name.now ++ suffix_text suffix)) out.old (outcome result) out.new }
+    ensures printed { Prints T.sink (word_items (name.now ++ suffix_text suffix)) out.old result out.new }
 {
     out.span_start_opcode();
     write_mnemonic(name, suffix, out)?;
@@ -69,7 +68,7 @@ fn it_letter_at(condition: u32, bit: u32) -> u8
 }
 
 fn write_it_letters<T: DisplaySink>(block: ItBlock, out: &mut T) -> Result<(), Fault>
-    ensures { Printed T.meaning T.kept (text_items (block_letters block)) out.old (outcome result) out.new }
+    ensures { Prints T.sink (text_items (block_letters block)) out.old result out.new }
 {
     let condition = condition_number(block.condition);
     let letters = [
@@ -87,7 +86,7 @@ fn write_it_mnemonic<T: DisplaySink>(
     block: ItBlock,
     out: &mut T,
 ) -> Result<(), Fault>
-    ensures { Printed T.meaning T.kept (text_items (name.now ++ (suffix_text suffix ++ block_letters block))) out.old (outcome result) out.new }
+    ensures { Prints T.sink (text_items (name.now ++ (suffix_text suffix ++ block_letters block))) out.old result out.new }
 {
     write_text(out, name)?;
     write_suffix(suffix, out)?;
@@ -104,7 +103,7 @@ fn write_it_word<T: DisplaySink>(
     block: ItBlock,
     out: &mut T,
 ) -> Result<(), Fault>
-    ensures { Printed T.meaning T.kept (word_items (name.now ++ (suffix_text suffix ++ block_letters block))) out.old (outcome result) out.new }
+    ensures { Prints T.sink (word_items (name.now ++ (suffix_text suffix ++ block_letters block))) out.old result out.new }
 {
     out.span_start_opcode();
     write_it_mnemonic(name, suffix, block, out)?;
@@ -118,7 +117,7 @@ pub(crate) fn write_own_word<T: DisplaySink>(
     instruction: &Instruction,
     out: &mut T,
 ) -> Result<(), Fault>
-    ensures { Printed T.meaning T.kept (word_items (name_of instruction.now.opcode ++ suffix_of instruction.now)) out.old (outcome result) out.new }
+    ensures { Prints T.sink (word_items (name_of instruction.now.opcode ++ suffix_of instruction.now)) out.old result out.new }
 {
     write_word(instruction.opcode.name(), Suffix::of(instruction), out)
 }
@@ -129,7 +128,7 @@ pub(crate) fn write_form_word<T: DisplaySink>(
     instruction: &Instruction,
     out: &mut T,
 ) -> Result<(), Fault>
-    ensures { Printed T.meaning T.kept (word_items (word_of form.entry instruction.now)) out.old (outcome result) out.new }
+    ensures { Prints T.sink (word_items (word_of form.entry instruction.now)) out.old result out.new }
 {
     let name = instruction.opcode.name();
     let suffix = Suffix::of(instruction);

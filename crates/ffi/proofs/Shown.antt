@@ -5,20 +5,20 @@ use Rattle.std.proofs.lemmas.List.{drop_all}
 use Rattle.armv7.specs.Faults.{Refusal}
 use Rattle.sink.specs.Items.{Item, bytes, marks_from, fitting}
 use Rattle.sink.specs.Lent.{lent, Filled}
-use Rattle.sink.specs.Meaning.{Meaning, with_room, room, Laws}
+use Rattle.sink.specs.Meaning.{with_room, room, SinkOf}
 use Rattle.sink.specs.Outcome.{full_below}
 use Rattle.sink.proofs.Lents.{all_lent}
 use Rattle.visitor.specs.Visits.{PrintedUnless}
 use Rattle.ffi.specs.Lines.{items_unless, refusal_unless, over}
 
-pub record Shown {S : Type 0} (meaning : S → Meaning) (kept : S → S → Type 0) (f : Option Refusal) (n m : ℕ) (is : List Item) (before : S) (answer : Option Refusal) (after : S) : Type 0 where
+pub record Shown {S : Type 0} (sink : SinkOf S) (f : Option Refusal) (n m : ℕ) (is : List Item) (before : S) (answer : Option Refusal) (after : S) : Type 0 where
   pub told : answer ≡ refusal_unless f n is
   pub text : (meaning after).text ≡ bytes (items_unless f n is)
   pub marks : (meaning after).marks ≡ take m (marks_from 0 (items_unless f n is))
   pub rest : kept before after
 
-module _ {S : Type 0} (meaning : S → Meaning) (kept : S → S → Type 0) (laws : Laws meaning kept) (is : List Item) (n m : ℕ) (s t : S) (o : Option Refusal) where
-  pub shows : (f : Option Refusal) → meaning s ≡ with_room n m → PrintedUnless meaning kept f is s o t → Shown meaning kept f n m is s o t
+module _ {S : Type 0} (sink : SinkOf S) (is : List Item) (n m : ℕ) (s t : S) (o : Option Refusal) where
+  pub shows : (f : Option Refusal) → meaning s ≡ with_room n m → PrintedUnless sink f is s o t → Shown sink f n m is s o t
   shows None empty p =
       let all : n ≡ n - 0 = omega arith in
       record {
@@ -37,7 +37,7 @@ module _ {S : Type 0} (meaning : S → Meaning) (kept : S → S → Type 0) (law
     told = p.told;
     text = ap (λ u. (meaning u).text) p.still ∙ ap (λ k. k.text) empty;
     marks = ap (λ u. (meaning u).marks) p.still ∙ ap (λ k. k.marks) empty ∙ sym (take_all m [] (omega arith));
-    rest = subst (kept s) (sym p.still) (laws.stays s);
+    rest = subst (kept s) (sym p.still) (sink.stays s);
   }
 
 -- memory that was filled holds what is in use of it, and past that what it held

@@ -1,8 +1,7 @@
 // The manual line.
 ghost use Rattle.std.specs.Prelude.{◌≡◌, [], ◌∷◌};
-ghost use Rattle.sink.specs.Outcome.{outcome};
-ghost use Rattle.sink.specs.Printed.{Printed};
-ghost use Rattle.visitor.specs.Visits.{PrintedUnless};
+ghost use Rattle.sink.specs.Printed.{Prints};
+ghost use Rattle.visitor.specs.Visits.{PrintsUnless};
 ghost use Rattle.lines.specs.Forms.{suffix_text};
 ghost use Rattle.lines.specs.Lines.{behind_word, line_of};
 ghost use Rattle.manual.specs.Lines.{on_stack, block_name, one_row, one_parts, block_parts, manual_refused, manual_line};
@@ -34,7 +33,7 @@ fn write_block_line<T: DisplaySink>(
     out: &mut T,
 ) -> Result<(), Fault>
     requires { name.now ≡ block_name block.transfer.load block.transfer.add block.transfer.pre }
-    ensures { Printed T.meaning T.kept (line_of (block_parts block (suffix_text suffix))) out.old (outcome result) out.new }
+    ensures { Prints T.sink (line_of (block_parts block (suffix_text suffix))) out.old result out.new }
 {
     if is_on_stack(block) {
         write_word(stack_word(block.transfer.load), suffix, out)?;
@@ -48,7 +47,7 @@ fn write_block_line<T: DisplaySink>(
 // The one register of a pop or a push.
 // Kept: the printer's lies in two spans, and this one in one.
 fn write_one<T: DisplaySink>(reg: Reg, out: &mut T) -> Result<(), Fault>
-    ensures { Printed T.meaning T.kept (behind_word (one_row reg ∷ [])) out.old (outcome result) out.new }
+    ensures { Prints T.sink (behind_word (one_row reg ∷ [])) out.old result out.new }
 {
     write_text(out, b" {")?;
     write_reg(out, reg)?;
@@ -61,7 +60,7 @@ fn write_one_line<T: DisplaySink>(
     suffix: Suffix,
     out: &mut T,
 ) -> Result<(), Fault>
-    ensures { Printed T.meaning T.kept (line_of (one_parts load reg (suffix_text suffix))) out.old (outcome result) out.new }
+    ensures { Prints T.sink (line_of (one_parts load reg (suffix_text suffix))) out.old result out.new }
 {
     write_word(stack_word(load), suffix, out)?;
     write_one(reg, out)
@@ -69,7 +68,7 @@ fn write_one_line<T: DisplaySink>(
 
 // Prints the manual line of an instruction that is not refused to a sink, as much of it as there is room for.
 pub fn visit_manual<T: DisplaySink>(instruction: &Instruction, out: &mut T) -> Result<(), Fault>
-    ensures printed { PrintedUnless T.meaning T.kept (manual_refused instruction.now) (manual_line instruction.now) out.old (outcome result) out.new }
+    ensures printed { PrintsUnless T.sink (manual_refused instruction.now) (manual_line instruction.now) out.old result out.new }
 {
     let form = admit(instruction)?;
     let suffix = Suffix {

@@ -2,7 +2,7 @@
 use Rattle.std.proofs.Common.{◌≡◌, ℕ, suc, ◌≤◌, cond, List, [], ◌∷◌, length, Some, None, Option, Result, sym, refl, ap, ◌∙◌, subst, ap₂, arith, length-append, le-ltb}
 use Rattle.armv7.specs.Faults.{Refusal, refused_with, no_operand}
 use Rattle.sink.specs.Items.{Item, byte, bytes}
-use Rattle.sink.specs.Meaning.{Meaning, room}
+use Rattle.sink.specs.Meaning.{room, SinkOf}
 use Rattle.sink.proofs.Chain.{handed_whole}
 use Rattle.sink.proofs.Rows.{bytes_append}
 use Rattle.visitor.specs.Visits.{PrintedUnless}
@@ -18,11 +18,11 @@ use Rattle.page.proofs.Fits.{row_fits}
 row_length : (is : List Item) → length (bytes (row is)) ≡ suc (length (bytes is))
 row_length is = ap length (bytes_append is (byte 10 ∷ [])) ∙ omega (arith, length-append (bytes is) (10 ∷ []))
 
-module _ {S : Type 0} (meaning : S → Meaning) (kept : S → S → Type 0) (s : Spelling) (c : Call) (p q : Page S) (mid : S) (o : Option Refusal) (r : Result ℕ PageFault) where
-  pub step_of : RowPrinted meaning kept (call_refused s c) (call_line s c) p.sink o mid → told r ≡ told_by o p.count (counted p.count) → q.sink ≡ mid → q.count ≡ counted_unless o p.count → Step meaning kept s c p r q
+module _ {S : Type 0} (sink : SinkOf S) (s : Spelling) (c : Call) (p q : Page S) (mid : S) (o : Option Refusal) (r : Result ℕ PageFault) where
+  pub step_of : RowPrinted sink (call_refused s c) (call_line s c) p.sink o mid → told r ≡ told_by o p.count (counted p.count) → q.sink ≡ mid → q.count ≡ counted_unless o p.count → Step sink s c p r q
   step_of h t e n = by (row_refused (call_refused s c) (room (meaning p.sink)) (length (bytes (call_line s c)))) refl h
     where
-      by : (w : Option Refusal) → row_refused (call_refused s c) (room (meaning p.sink)) (length (bytes (call_line s c))) ≡ w → PrintedUnless meaning kept w (row (call_line s c)) p.sink o mid → Step meaning kept s c p r q
+      by : (w : Option Refusal) → row_refused (call_refused s c) (room (meaning p.sink)) (length (bytes (call_line s c))) ≡ w → PrintedUnless sink w (row (call_line s c)) p.sink o mid → Step sink s c p r q
       by None f g =
           let fits = (row_fits (call_refused s c) (room (meaning p.sink)) (length (bytes (call_line s c))) f).1 in
           let short : length (bytes (row (call_line s c))) ≤ room (meaning p.sink) = omega (arith, row_length (call_line s c)) in
@@ -30,7 +30,7 @@ module _ {S : Type 0} (meaning : S → Meaning) (kept : S → S → Type 0) (s :
           let answer : told r ≡ told_by None p.count (counted p.count) = t ∙ ap (λ x. told_by x p.count (counted p.count)) quiet in
           record {
             answered = answer ∙ ap (λ x. told_by x p.count (counted p.count)) (sym f);
-            changed = subst (λ x. Changed meaning kept (call_line s c) x p q) (sym answer) (record {
+            changed = subst (λ x. Changed sink (call_line s c) x p q) (sym answer) (record {
               held = ap meaning e ∙ g.held ∙ handed_whole (row (call_line s c)) (meaning p.sink) short;
               rest = subst (kept p.sink) (sym e) g.rest;
               count_is = n ∙ ap (λ x. counted_unless x p.count) quiet;
@@ -40,5 +40,5 @@ module _ {S : Type 0} (meaning : S → Meaning) (kept : S → S → Type 0) (s :
           let answer : told r ≡ told_by (Some why) p.count (counted p.count) = t ∙ ap (λ x. told_by x p.count (counted p.count)) g.told in
           record {
             answered = answer ∙ ap (λ x. told_by x p.count (counted p.count)) (sym f);
-            changed = subst (λ x. Changed meaning kept (call_line s c) x p q) (sym answer) (ap₂ (λ x k. record { sink = x; count = k }) (e ∙ g.still) (n ∙ ap (λ x. counted_unless x p.count) g.told));
+            changed = subst (λ x. Changed sink (call_line s c) x p q) (sym answer) (ap₂ (λ x k. record { sink = x; count = k }) (e ∙ g.still) (n ∙ ap (λ x. counted_unless x p.count) g.told));
           }

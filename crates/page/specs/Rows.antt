@@ -2,7 +2,7 @@
 use Rattle.std.specs.Prelude.{ℕ, suc, cond, List, [], ◌∷◌, ◌++◌, length, Some, None, Option, nat_lt}
 use Rattle.armv7.specs.Faults.{Refusal, refused_with, no_operand}
 use Rattle.sink.specs.Items.{Item, byte, bytes}
-use Rattle.sink.specs.Meaning.{Meaning, room}
+use Rattle.sink.specs.Meaning.{room, SinkOf}
 use Rattle.visitor.specs.Visits.{PrintedUnless}
 
 -- a refusal of its own comes first; else the page is full where line and line break are longer than the room
@@ -14,6 +14,6 @@ row_refused None room size = cond (nat_lt room (suc size)) (Some (refused_with 1
 abbrev pub row : List Item → List Item
 row is = is ++ byte 10 ∷ []
 
-abbrev pub RowPrinted : {S : Type 0} → (S → Meaning) → (S → S → Type 0) → Option Refusal → List Item → S → Option Refusal → S → Type 0
-RowPrinted meaning kept why is before answer after =
-    PrintedUnless meaning kept (row_refused why (room (meaning before)) (length (bytes is))) (row is) before answer after
+abbrev pub RowPrinted : {S : Type 0} → SinkOf S → Option Refusal → List Item → S → Option Refusal → S → Type 0
+RowPrinted sink why is before answer after =
+    PrintedUnless sink (row_refused why (room (meaning before)) (length (bytes is))) (row is) before answer after

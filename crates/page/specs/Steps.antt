@@ -2,7 +2,7 @@
 use Rattle.std.specs.Prelude.{◌≡◌, ℕ, suc, ◌-◌, ◌^◌, min, List, Some, None, Option, Result}
 use Rattle.armv7.specs.Faults.{Refusal}
 use Rattle.sink.specs.Items.{Item}
-use Rattle.sink.specs.Meaning.{Meaning, room}
+use Rattle.sink.specs.Meaning.{room, SinkOf}
 use Rattle.sink.specs.Printed.{taken}
 use Rattle.armv7.specs.declared.call.Call.{Call}
 use Rattle.page.specs.declared.entry.PageFault.{PageFault}
@@ -20,19 +20,19 @@ counted_unless None n = counted n
 counted_unless (Some why) n = n
 
 -- a line with its line break was taken, and counted
-pub record Lined {S : Type 0} (meaning : S → Meaning) (kept : S → S → Type 0) (is : List Item) (count : ℕ) (before after : Page S) : Type 0 where
+pub record Lined {S : Type 0} (sink : SinkOf S) (is : List Item) (count : ℕ) (before after : Page S) : Type 0 where
   pub held : meaning after.sink ≡ taken (row is) (meaning before.sink)
   pub rest : kept before.sink after.sink
   pub count_is : after.count ≡ count
 
 -- an accepted call adds its line, and a refused one changes nothing
-abbrev pub Changed : {S : Type 0} → (S → Meaning) → (S → S → Type 0) → List Item → Told → Page S → Page S → Type 0
-Changed meaning kept is (lines n) before after = Lined meaning kept is n before after
-Changed meaning kept is (fault why n) before after = after ≡ before
+abbrev pub Changed : {S : Type 0} → SinkOf S → List Item → Told → Page S → Page S → Type 0
+Changed sink is (lines n) before after = Lined sink is n before after
+Changed sink is (fault why n) before after = after ≡ before
 
-pub record Step {S : Type 0} (meaning : S → Meaning) (kept : S → S → Type 0) (s : Spelling) (c : Call) (before : Page S) (answer : Result ℕ PageFault) (after : Page S) : Type 0 where
+pub record Step {S : Type 0} (sink : SinkOf S) (s : Spelling) (c : Call) (before : Page S) (answer : Result ℕ PageFault) (after : Page S) : Type 0 where
   pub answered : told answer ≡ owed s (room (meaning before.sink)) before.count (counted before.count) c
-  pub changed : Changed meaning kept (call_line s c) (told answer) before after
+  pub changed : Changed sink (call_line s c) (told answer) before after
 
 abbrev pub made_on : {S : Type 0} → S → Page S
 made_on sink = record { sink = sink; count = 0 }

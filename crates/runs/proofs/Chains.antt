@@ -5,7 +5,7 @@ use lib.Seq.{drop-append_seam}
 use Rattle.std.specs.List.{AllByRecursion}
 use Rattle.armv7.specs.Faults.{Refusal}
 use Rattle.sink.specs.Items.{Item, bytes}
-use Rattle.sink.specs.Meaning.{Meaning, Laws, room}
+use Rattle.sink.specs.Meaning.{Meaning, SinkOf, room}
 use Rattle.sink.specs.Printed.{taken}
 use Rattle.sink.proofs.Chain.{taken_both, room_taken, nothing}
 use Rattle.blocks.specs.declared.fields.Sheet.{Sheet}
@@ -111,7 +111,7 @@ module _ (s : Spelling) where
           (subst (λ x. told x.answer ≡ owed s (room m - length (page_text s (accepted es))) (length (accepted es)) (suc (length (accepted es))) x.call) (sym g) k)
       by (before after g) = h earlier after e g
 
-module _ {S : Type 0} {meaning : S → Meaning} {kept : S → S → Type 0} (laws : Laws meaning kept) (s : Spelling) (start : S) where
+module _ {S : Type 0} (sink : SinkOf S) (s : Spelling) (start : S) where
   -- where a chain of calls has come to
   pub record State (es : List Entry) (p : Page S) : Type 0 where
     pub held : meaning p.sink ≡ taken (page_items (call_lines s (accepted es))) (meaning start)
@@ -122,7 +122,7 @@ module _ {S : Type 0} {meaning : S → Meaning} {kept : S → S → Type 0} (law
 
   -- nothing was called yet
   begun : State [] (made_on start)
-  begun = record { held = (nothing laws start).held; rest = laws.stays start; count_is = refl; admitted = tt; answers = λ earlier later e h. absurd (none_there earlier e later h) }
+  begun = record { held = (nothing sink start).held; rest = sink.stays start; count_is = refl; admitted = tt; answers = λ earlier later e h. absurd (none_there earlier e later h) }
 
   -- the room that the accepted lines have left
   room_left : {es : List Entry} {p : Page S} → State es p → room (meaning p.sink) ≡ room (meaning start) - length (page_text s (accepted es))
@@ -133,13 +133,13 @@ module _ {S : Type 0} {meaning : S → Meaning} {kept : S → S → Type 0} (law
   next_number : {es : List Entry} {p : Page S} → State es p → (o : Option Refusal) (size : ℕ) → row_refused o (room (meaning p.sink)) size ≡ None → counted p.count ≡ suc (length (accepted es))
   next_number {es} {p} st o size h =
       let fits : suc size ≤ room (meaning p.sink) = (row_fits o (room (meaning p.sink)) size h).1 in
-      let sound = laws.sound p.sink in
+      let sound = sink.sound p.sink in
       let limit : (meaning p.sink).limit < 2 ^ 64 = sound.limit_bits in
       let long : length (meaning p.sink).text ≡ length (meaning start).text + length (page_text s (accepted es)) = ap (λ m. length m.text) st.held ∙ length-append (meaning start).text _ ∙ ap (λ b. length (meaning start).text + length b) (bytes_page (call_lines s (accepted es))) in
       let grows : length (accepted es) ≤ length (page_text s (accepted es)) = page_grows s (accepted es) in
       ap counted st.count_is ∙ (omega arith)
 
-  stepped : {es : List Entry} {p q : Page S} {c : Call} {r : Result ℕ PageFault} → State es p → Step meaning kept s c p r q → State (es ++ record { call = c; answer = r } ∷ []) q
+  stepped : {es : List Entry} {p q : Page S} {c : Call} {r : Result ℕ PageFault} → State es p → Step sink s c p r q → State (es ++ record { call = c; answer = r } ∷ []) q
   stepped {es} {p} {q} {c} {r} st x = by (told r) refl x.changed
     where
       next : row_refused (call_refused s c) (room (meaning p.sink)) (length (bytes (call_line s c))) ≡ None → counted p.count ≡ suc (length (accepted es))
@@ -152,7 +152,7 @@ module _ {S : Type 0} {meaning : S → Meaning} {kept : S → S → Type 0} (law
           ∙ ap (λ k. told_by (row_refused (call_refused s c) (room (meaning p.sink)) (length (bytes (call_line s c)))) k (suc (length (accepted es)))) st.count_is
           ∙ ap (λ k. owed s k (length (accepted es)) (suc (length (accepted es))) c) (room_left st)
 
-      by : (t : Told) → told r ≡ t → Changed meaning kept (call_line s c) t p q → State (es ++ record { call = c; answer = r } ∷ []) q
+      by : (t : Told) → told r ≡ t → Changed sink (call_line s c) t p q → State (es ++ record { call = c; answer = r } ∷ []) q
       by (lines k) h ch =
           let new : accepted (es ++ record { call = c; answer = r } ∷ []) ≡ accepted es ++ c ∷ [] = accepted_push s es (record { call = c; answer = r }) (lines k) h in
           let fit = told_lines (row_refused (call_refused s c) (room (meaning p.sink)) (length (bytes (call_line s c)))) p.count (counted p.count) k (sym h ∙ x.answered) in
@@ -161,7 +161,7 @@ module _ {S : Type 0} {meaning : S → Meaning} {kept : S → S → Type 0} (law
                 ∙ ap (taken (row (call_line s c))) st.held
                 ∙ sym (taken_both (page_items (call_lines s (accepted es))) (row (call_line s c)) (meaning start))
                 ∙ ap (λ is. taken is (meaning start)) (sym (lines_push s (accepted es) c) ∙ ap (λ cs. page_items (call_lines s cs)) (sym new));
-            rest = laws.lasts start p.sink q.sink st.rest ch.rest;
+            rest = sink.lasts start p.sink q.sink st.rest ch.rest;
             count_is = ch.count_is ∙ fit.1 ∙ next fit.0 ∙ omega (arith, length-append (accepted es) (c ∷ [])) ∙ ap length (sym new);
             admitted = subst (AllByRecursion (Admitted s)) (sym new) (all_append (Admitted s) (accepted es) c st.admitted (row_fits (call_refused s c) _ _ fit.0).0);
             answers = answers_push s (meaning start) es (record { call = c; answer = r }) st.answers answered;
@@ -176,7 +176,7 @@ module _ {S : Type 0} {meaning : S → Meaning} {kept : S → S → Type 0} (law
             answers = answers_push s (meaning start) es (record { call = c; answer = r }) st.answers answered;
           }
 
-  pub state : {es : List Entry} {p : Page S} → Driven meaning kept s start es p → State es p
+  pub state : {es : List Entry} {p : Page S} → Driven sink s start es p → State es p
   state made = begun
   state (then d x) = stepped (state d) x
 
@@ -202,5 +202,5 @@ module _ {S : Type 0} {meaning : S → Meaning} {kept : S → S → Type 0} (law
 pub lawful_own : Lawful own
 lawful_own = record { bounded = lines_bounded; fits = own_sheets }
 
-pub steps_make_runs : {S : Type 0} {meaning : S → Meaning} {kept : S → S → Type 0} → Laws meaning kept → {s : Spelling} → Lawful s → StepsMakeRuns meaning kept s
-steps_make_runs laws {s} w start es p d = let end = state laws s start d in (law laws s start w end (map called es) refl, end.rest)
+pub steps_make_runs : {S : Type 0} {sink : SinkOf S} → Laws meaning kept → {s : Spelling} → Lawful s → StepsMakeRuns sink s
+steps_make_runs sink {s} w start es p d = let end = state sink s start d in (law sink s start w end (map called es) refl, end.rest)

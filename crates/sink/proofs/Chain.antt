@@ -8,9 +8,9 @@ use Rattle.sink.specs.declared.sink.Edge.{Edge}
 use Rattle.sink.specs.declared.sink.Mark.{Mark}
 use Rattle.sink.specs.declared.sink.Span.{Span}
 use Rattle.sink.specs.Items.{Item, edge, text_items, bytes, marks_from, fitting}
-use Rattle.sink.specs.Meaning.{Meaning, Laws, room, appended, marked}
+use Rattle.sink.specs.Meaning.{Meaning, SinkOf, room, Appends, Marks}
 use Rattle.sink.specs.Outcome.{outcome, full_below}
-use Rattle.sink.specs.Printed.{taken, handed, Printed}
+use Rattle.sink.specs.Printed.{taken, handed, Printed, Prints}
 use Rattle.sink.proofs.Lents.{one_more}
 use Rattle.sink.proofs.Rows.{bytes_append, length_bytes, marks_append, bytes_text, marks_text, fitting_text, fitting_whole, fitting_cut, fitting_all, take_twice}
 
@@ -74,70 +74,68 @@ pub broke : {A : Type 0} (r : Result A Fault) (d : Fault) → IsErrAnd r (λ y. 
 broke (Ok x) d e = absurd e
 broke (Err y) d e = ap (λ f. Some (refusal f)) e
 
-module _ {S : Type 0} {meaning : S → Meaning} {kept : S → S → Type 0} (laws : Laws meaning kept) where
+module _ {S : Type 0} (sink : SinkOf S) where
   -- what was printed whole can be followed
-  pub both : (a b : List Item) {s t u : S} {r : Option Refusal} → Printed meaning kept a s None t → Printed meaning kept b t r u → Printed meaning kept (a ++ b) s r u
+  pub both : (a b : List Item) {s t u : S} {r : Option Refusal} → Printed sink a s None t → Printed sink b t r u → Printed sink (a ++ b) s r u
   both a b {s} {t} {u} {r} p q =
-      let m = meaning s in
+      let m = sink.meaning s in
       let fits = full_fits (room m) (length (bytes a)) p.told in
-      let left : room (meaning t) ≡ room m - length (bytes a) = ap room (p.held ∙ handed_whole a m fits) ∙ room_taken a m in
+      let left : room (sink.meaning t) ≡ room m - length (bytes a) = ap room (p.held ∙ handed_whole a m fits) ∙ room_taken a m in
       record {
         held = q.held ∙ ap (handed b) p.held ∙ sym (handed_both a b m fits);
         told = q.told ∙ ap (λ n. full_below n (length (bytes b))) left ∙ full_below_less (room m) (length (bytes a)) (length (bytes b)) fits ∙ ap (full_below (room m)) (sym (length_bytes a b));
-        rest = laws.lasts s t u p.rest q.rest;
+        rest = subst (λ is. sink.kept is s u) (sym (fitting_whole (room m) a b fits))
+            (sink.laws.adds_up a _ s t u (subst (λ is. sink.kept is s t) (fitting_all (room m) a fits) p.rest) (subst (λ n. sink.kept (fitting n b) t u) left q.rest));
       }
 
   -- what stopped stays stopped
-  pub halt : (a b : List Item) {s t : S} {f : Refusal} → Printed meaning kept a s (Some f) t → Printed meaning kept (a ++ b) s (Some f) t
+  pub halt : (a b : List Item) {s t : S} {f : Refusal} → Printed sink a s (Some f) t → Printed sink (a ++ b) s (Some f) t
   halt a b {s} {t} {f} p =
-      let m = meaning s in
+      let m = sink.meaning s in
       let short = full_stops (room m) (length (bytes a)) f p.told in
       record {
         held = p.held ∙ sym (handed_cut a b m short);
         told = p.told ∙ full_below_more (room m) (length (bytes a)) (length (bytes b)) short ∙ ap (full_below (room m)) (sym (length_bytes a b));
-        rest = p.rest;
+        rest = subst (λ is. sink.kept is s t) (sym (fitting_cut (room m) a b short)) p.rest;
       }
 
   -- a call that hands over nothing
-  pub nothing : (s : S) → Printed meaning kept [] s None s
+  pub nothing : (s : S) → Printed sink [] s None s
   unfolding holding
   nothing s =
-      let m = meaning s in
+      let m = sink.meaning s in
       record {
-        held = sym (ap₂ (holding m) (append-nil m.text) (ap (take m.mark_limit) (append-nil m.marks) ∙ take_all _ _ (laws.sound s).marks_within));
+        held = sym (ap₂ (holding m) (append-nil m.text) (ap (take m.mark_limit) (append-nil m.marks) ∙ take_all _ _ (sink.laws.sound s).marks_within));
         told = sym (ap (λ t. cond t (Some (refused_with 9 no_operand)) None) (le-ltb (room m) 0 (omega arith)));
-        rest = laws.stays s;
+        rest = sink.laws.stays s;
       }
 
   -- what a write promises
-  pub wrote : (p : List ℕ) {s t : S} {r : Option Refusal} → meaning t ≡ appended p (meaning s) → r ≡ full_below (room (meaning s)) (length p) → kept s t → Printed meaning kept (text_items p) s r t
+  pub wrote : (p : List ℕ) {s t : S} {r : Result (Unit {0}) Fault} → Appends sink p s r t → Prints sink (text_items p) s r t
   unfolding holding
-  wrote p {s} {t} e f k =
-      let m = meaning s in
+  wrote p {s} {t} w =
+      let m = sink.meaning s in
       let row = take (room m) p in
       record {
-        held = e ∙ ap₂ (holding m) (ap (λ x. m.text ++ x) (sym (bytes_text row)))
-            (sym (ap (λ x. take m.mark_limit (m.marks ++ x)) (marks_text (length m.text) row) ∙ ap (take m.mark_limit) (append-nil m.marks) ∙ take_all _ _ (laws.sound s).marks_within))
+        held = w.held
+            ∙ ap₂ (holding m) (ap (λ x. m.text ++ x) (sym (bytes_text row)))
+            (sym (ap (λ x. take m.mark_limit (m.marks ++ x)) (marks_text (length m.text) row) ∙ ap (take m.mark_limit) (append-nil m.marks) ∙ take_all _ _ (sink.laws.sound s).marks_within))
             ∙ ap (λ is. taken is m) (sym (fitting_text (room m) p));
-        told = f ∙ ap (λ l. full_below (room m) (length l)) (sym (bytes_text p));
-        rest = k;
+        told = w.told ∙ ap (λ l. full_below (room m) (length l)) (sym (bytes_text p));
+        rest = subst (λ is. sink.kept is s t) (sym (fitting_text (room m) p)) w.rest;
       }
 
-  -- a write of a piece that is known under another name
-  pub wrote_as : {p : List ℕ} (q : List ℕ) {s t : S} {r : Option Refusal} → p ≡ q → meaning t ≡ appended p (meaning s) → r ≡ full_below (room (meaning s)) (length p) → kept s t → Printed meaning kept (text_items q) s r t
-  wrote_as {p} q {s} {t} {r} n e f k = subst (λ x. Printed meaning kept (text_items x) s r t) n (wrote p e f k)
-
   -- what an edge promises
-  pub edged : (e : Edge) (k : Span) {s t : S} → meaning t ≡ marked e k (meaning s) → kept s t → Printed meaning kept (edge e k ∷ []) s None t
+  pub edged : (e : Edge) (k : Span) {s t : S} → Marks sink e k s t → Printed sink (edge e k ∷ []) s None t
   unfolding holding
-  edged e k {s} {t} h x =
-      let m = meaning s in
+  edged e k {s} {t} w =
+      let m = sink.meaning s in
       record {
-        held = h ∙ ap₂ (holding m) (sym (append-nil m.text)) (last_mark m.marks _ m.mark_limit (laws.sound s).marks_within);
+        held = w.held ∙ ap₂ (holding m) (sym (append-nil m.text)) (last_mark m.marks _ m.mark_limit (sink.laws.sound s).marks_within);
         told = sym (ap (λ t. cond t (Some (refused_with 9 no_operand)) None) (le-ltb (room m) 0 (omega arith)));
-        rest = x;
+        rest = w.rest;
       }
 
   -- a call whose refusal was handed on
-  pub stop : (a b : List Item) {A : Type 0} {s t : S} (r : Result A Fault) (d : Fault) → Printed meaning kept a s (Some (refusal d)) t → IsErrAnd r (λ y. y ≡ d) → Printed meaning kept (a ++ b) s (outcome r) t
-  stop a b {s = s} {t} r d p e = subst (λ o. Printed meaning kept (a ++ b) s o t) (sym (broke r d e)) (halt a b p)
+  pub stop : (a b : List Item) {A : Type 0} {s t : S} (r : Result A Fault) (d : Fault) → Printed sink a s (Some (refusal d)) t → IsErrAnd r (λ y. y ≡ d) → Printed sink (a ++ b) s (outcome r) t
+  stop a b {s = s} {t} r d p e = subst (λ o. Printed sink (a ++ b) s o t) (sym (broke r d e)) (halt a b p)

@@ -1,4 +1,3 @@
 pub mod Chain
 pub mod Lents
-pub mod Lines
 pub mod Rows

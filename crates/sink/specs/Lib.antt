@@ -1,4 +1,3 @@
-pub mod Composed
 pub mod Items
 pub mod Lent
 pub mod MarkSinks

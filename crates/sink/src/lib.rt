@@ -1,16 +1,11 @@
 // Sinks: what a printer writes bytes and span edges to, by what they hold, and those on lent memory.
 #![tactic(auto)]
 
-ghost use Rattle.std.specs.Prelude.{[], ◌∷◌};
-ghost use Rattle.sink.specs.Items.{byte};
-
 pub mod lent;
-pub mod line;
 pub mod marking;
 pub mod sink;
 pub mod text;
 
-pub use line::{LINE_ROOM, Line};
 pub use marking::MarkSink;
 pub use sink::{DisplaySink, Edge, Mark, RoomSink, Span};
 pub use text::TextSink;
@@ -38,29 +33,6 @@ mod tests {
         assert!(rt; out.text() == b"ldm sp!,".as_slice());
         assert_eq!(rt; out.end(), 8);
         assert!(rt; buf == *b"ldm sp!,");
-    }
-
-    // A line of two bytes.
-    struct Pair(u8, u8);
-
-    impl Line for Pair {
-        ghost items = { λ p. byte p.0 ∷ byte p.1 ∷ [] };
-
-        fn compose(&self, memory: &mut [u8; LINE_ROOM]) -> usize {
-            memory[0] = self.0;
-            memory[1] = self.1;
-            2
-        }
-    }
-
-    #[test]
-    fn text_sink_takes_lines_while_there_is_room(rt: HostRuntime) {
-        let mut buf = [0u8; LINE_ROOM + 2];
-        let mut out = TextSink::new(&mut buf);
-        assert!(rt; out.print_line(&Pair(b'o', b'k')));
-        assert!(rt; out.print_line(&Pair(b'!', b'\n')));
-        assert!(rt; !out.print_line(&Pair(b'?', b'\n')));
-        assert!(rt; out.text() == b"ok!\n".as_slice());
     }
 
     #[test]

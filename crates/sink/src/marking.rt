@@ -1,6 +1,6 @@
 // A sink that holds text in lent bytes, and marks in a lent row.
 ghost use Rattle.std.specs.Prelude.{◌≡◌, ◌≤◌, length, take};
-ghost use Rattle.sink.specs.Meaning.{with_room, marked};
+ghost use Rattle.sink.specs.Meaning.{with_room, Marks};
 
 use crate::lent::{append, push};
 use crate::sink::{DisplaySink, Edge, Mark, RoomSink, Span};
@@ -19,7 +19,7 @@ pub struct MarkSink<'a> {
 }
 
 impl<'a> MarkSink<'a> {
-    ghost use Rattle.sink.specs.MarkSinks.{mark_meaning, MarkKept};
+    ghost use Rattle.sink.specs.MarkSinks.{mark_meaning, mark_sink};
 
     // A sink with no text and no marks yet, with as much room as there are bytes, and for as many marks as the row is long.
     pub fn new(buf: &'a mut [u8], row: &'a mut [Mark]) -> MarkSink<'a>
@@ -63,8 +63,7 @@ impl<'a> MarkSink<'a> {
 
     // One mark more at the end of the text, where the row has a place for it.
     fn mark(&mut self, edge: Edge, span: Span)
-        ensures after { mark_meaning self.new ≡ marked edge span (mark_meaning self.old) }
-        ensures rest { MarkKept self.old self.new }
+        ensures marked { Marks mark_sink edge span self.old self.new }
     {
         let at = self.len;
         let _ = push(self.row, &mut self.count, Mark { edge, span, at });
@@ -72,13 +71,9 @@ impl<'a> MarkSink<'a> {
 }
 
 impl DisplaySink for MarkSink<'_> {
-    ghost use Rattle.sink.specs.MarkSinks.{mark_meaning, MarkKept, mark_laws};
+    ghost use Rattle.sink.specs.MarkSinks.{mark_sink};
 
-    ghost meaning = { mark_meaning };
-
-    ghost kept = { MarkKept };
-
-    ghost laws = { mark_laws };
+    ghost sink = { mark_sink };
 
     fn write(&mut self, piece: &[u8]) -> Result<(), Fault> {
         append(self.buf, &mut self.len, piece)

@@ -1,8 +1,7 @@
 // Writers of numbers.
 ghost use Rattle.std.specs.Prelude.{◌≡◌, ℕ, ◌^◌, ◌<◌, ◌≤◌, ◌++◌, drop, codes};
 ghost use Rattle.sink.specs.Items.{text_items};
-ghost use Rattle.sink.specs.Outcome.{outcome};
-ghost use Rattle.sink.specs.Printed.{Printed};
+ghost use Rattle.sink.specs.Printed.{Prints};
 ghost use Rattle.visitor.specs.Texts.{decimal, prefixed, branch_text};
 
 use crate::piece::{write_either, write_text};
@@ -56,7 +55,7 @@ pub fn prefixed_digits(number: u64) -> ([u8; 10], usize)
 
 #[inline(never)]
 fn write_many_digits<T: DisplaySink>(out: &mut T, number: u64) -> Result<(), Fault>
-    ensures { Printed T.meaning T.kept (text_items (prefixed 8 number)) out.old (outcome result) out.new }
+    ensures { Prints T.sink (text_items (prefixed 8 number)) out.old result out.new }
 {
     let (memory, start) = prefixed_digits(number);
     write_text(out, &memory[start..])
@@ -65,7 +64,7 @@ fn write_many_digits<T: DisplaySink>(out: &mut T, number: u64) -> Result<(), Fau
 // The same. Kept: a single digit, as most numbers have, by itself, which is then a piece of known length (docs/SPEED.md).
 #[inline(always)]
 fn write_last_digits<T: DisplaySink>(out: &mut T, number: u64) -> Result<(), Fault>
-    ensures { Printed T.meaning T.kept (text_items (prefixed 8 number)) out.old (outcome result) out.new }
+    ensures { Prints T.sink (text_items (prefixed 8 number)) out.old result out.new }
 {
     if number < 16 {
         return write_text(out, &[b'0', b'x', HEX_DIGITS[number as usize]]);
@@ -76,7 +75,7 @@ fn write_last_digits<T: DisplaySink>(out: &mut T, number: u64) -> Result<(), Fau
 // `0x` and the digits of the number in base 16, without leading zeros: for every width that it fits, the same text.
 #[inline(always)]
 pub fn write_prefixed<T: DisplaySink>(out: &mut T, number: u32) -> Result<(), Fault>
-    ensures printed { (k : ℕ) → 0 < k → number < 16 ^ k → Printed T.meaning T.kept (text_items (prefixed k number)) out.old (outcome result) out.new }
+    ensures printed { (k : ℕ) → 0 < k → number < 16 ^ k → Prints T.sink (text_items (prefixed k number)) out.old result out.new }
 {
     write_last_digits(out, u64::from(number))
 }
@@ -84,7 +83,7 @@ pub fn write_prefixed<T: DisplaySink>(out: &mut T, number: u32) -> Result<(), Fa
 // The digits of the number, in decimal.
 #[inline(always)]
 pub fn write_decimal<T: DisplaySink>(out: &mut T, number: u8) -> Result<(), Fault>
-    ensures printed { Printed T.meaning T.kept (text_items (decimal number)) out.old (outcome result) out.new }
+    ensures printed { Prints T.sink (text_items (decimal number)) out.old result out.new }
 {
     if number < 10 {
         return write_text(out, &[48 + number]);
@@ -95,7 +94,7 @@ pub fn write_decimal<T: DisplaySink>(out: &mut T, number: u8) -> Result<(), Faul
 // A branch distance, back or on, in steps of the scale.
 #[inline(always)]
 pub fn write_branch<T: DisplaySink>(out: &mut T, scale: u8, distance: i32) -> Result<(), Fault>
-    ensures printed { Printed T.meaning T.kept (text_items (branch_text scale distance)) out.old (outcome result) out.new }
+    ensures printed { Prints T.sink (text_items (branch_text scale distance)) out.old result out.new }
 {
     write_either(out, distance < 0, b"$-", b"$+")?;
     write_last_digits(out, u64::from(scale) * u64::from(distance.unsigned_abs()))
@@ -103,7 +102,7 @@ pub fn write_branch<T: DisplaySink>(out: &mut T, scale: u8, distance: i32) -> Re
 
 // The option of a coprocessor, in braces.
 pub fn write_option<T: DisplaySink>(out: &mut T, number: u8) -> Result<(), Fault>
-    ensures printed { Printed T.meaning T.kept (text_items (codes "{" ++ (prefixed 2 number ++ codes "}"))) out.old (outcome result) out.new }
+    ensures printed { Prints T.sink (text_items (codes "{" ++ (prefixed 2 number ++ codes "}"))) out.old result out.new }
 {
     write_text(out, b"{")?;
     write_prefixed(out, u32::from(number))?;

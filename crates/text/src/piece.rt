@@ -3,8 +3,7 @@ ghost use Rattle.std.specs.Prelude.{List, ◌++◌, if◌then◌else◌, codes};
 ghost use Rattle.armv7.specs.Banks.{bank_name};
 ghost use Rattle.sink.specs.declared.sink.Span.TheVariants.{Register};
 ghost use Rattle.sink.specs.Items.{Item, text_items, within};
-ghost use Rattle.sink.specs.Outcome.{outcome};
-ghost use Rattle.sink.specs.Printed.{Printed};
+ghost use Rattle.sink.specs.Printed.{Prints};
 ghost use Rattle.text.specs.Spans.{Writes};
 ghost use Rattle.visitor.specs.Texts.{flagged, spanned, reg_items};
 
@@ -14,7 +13,7 @@ use sink::DisplaySink;
 // Inline, so that a fixed piece is a store.
 #[inline(always)]
 pub fn write_text<T: DisplaySink>(out: &mut T, piece: &[u8]) -> Result<(), Fault>
-    ensures printed { Printed T.meaning T.kept (text_items piece.now) out.old (outcome result) out.new }
+    ensures printed { Prints T.sink (text_items piece.now) out.old result out.new }
 {
     out.write(piece)
 }
@@ -22,7 +21,7 @@ pub fn write_text<T: DisplaySink>(out: &mut T, piece: &[u8]) -> Result<(), Fault
 // A text that is written only under a flag. Without it nothing is written, which an `Ok` says more plainly than an empty text.
 #[inline(always)]
 pub fn write_flagged<T: DisplaySink>(out: &mut T, flag: bool, text: &[u8]) -> Result<(), Fault>
-    ensures printed { Printed T.meaning T.kept (text_items (flagged flag text.now)) out.old (outcome result) out.new }
+    ensures printed { Prints T.sink (text_items (flagged flag text.now)) out.old result out.new }
 {
     if flag { write_text(out, text) } else { Ok(()) }
 }
@@ -35,7 +34,7 @@ pub fn write_either<T: DisplaySink>(
     set: &[u8],
     clear: &[u8],
 ) -> Result<(), Fault>
-    ensures printed { Printed T.meaning T.kept (text_items (if flag then set.now else clear.now)) out.old (outcome result) out.new }
+    ensures printed { Prints T.sink (text_items (if flag then set.now else clear.now)) out.old result out.new }
 {
     if flag {
         write_text(out, set)
@@ -50,7 +49,7 @@ fn in_register_span<T: DisplaySink, F: FnOnce(&mut T) -> Result<(), Fault>>(
     write: F,
 ) -> Result<(), Fault>
     requires { F.IsAlwaysCallable write }
-    ensures { (is : List Item) → Writes T.meaning T.kept (F.post write) is → Printed T.meaning T.kept (within Register is) out.old (outcome result) out.new }
+    ensures { (is : List Item) → Writes T.sink (F.post write) is → Prints T.sink (within Register is) out.old result out.new }
 {
     out.span_start_register();
     write(out)?;
@@ -62,7 +61,7 @@ fn in_register_span<T: DisplaySink, F: FnOnce(&mut T) -> Result<(), Fault>>(
 // Kept: apart from in_register_span, since a closure is not inline: by it a line misses its bar of speed (docs/SPEED.md).
 #[inline(always)]
 pub fn write_spanned<T: DisplaySink>(out: &mut T, name: &[u8]) -> Result<(), Fault>
-    ensures printed { Printed T.meaning T.kept (spanned name.now) out.old (outcome result) out.new }
+    ensures printed { Prints T.sink (spanned name.now) out.old result out.new }
 {
     out.span_start_register();
     write_text(out, name)?;
@@ -73,7 +72,7 @@ pub fn write_spanned<T: DisplaySink>(out: &mut T, name: &[u8]) -> Result<(), Fau
 // The name of a register that has more than two letters. Not inline, since there is but one.
 #[inline(never)]
 fn write_longer<T: DisplaySink>(out: &mut T, name: &[u8]) -> Result<(), Fault>
-    ensures { Printed T.meaning T.kept (spanned name.now) out.old (outcome result) out.new }
+    ensures { Prints T.sink (spanned name.now) out.old result out.new }
 {
     write_spanned(out, name)
 }
@@ -82,7 +81,7 @@ fn write_longer<T: DisplaySink>(out: &mut T, name: &[u8]) -> Result<(), Fault>
 // its bar of speed (docs/SPEED.md).
 #[inline(always)]
 pub fn write_reg<T: DisplaySink>(out: &mut T, reg: Reg) -> Result<(), Fault>
-    ensures printed { Printed T.meaning T.kept (reg_items reg) out.old (outcome result) out.new }
+    ensures printed { Prints T.sink (reg_items reg) out.old result out.new }
 {
     let name = reg.name();
     if name.len() == 2 {
@@ -93,21 +92,21 @@ pub fn write_reg<T: DisplaySink>(out: &mut T, reg: Reg) -> Result<(), Fault>
 
 // A register in two spans.
 pub fn write_twice_spanned<T: DisplaySink>(out: &mut T, reg: Reg) -> Result<(), Fault>
-    ensures printed { Printed T.meaning T.kept (within Register (reg_items reg)) out.old (outcome result) out.new }
+    ensures printed { Prints T.sink (within Register (reg_items reg)) out.old result out.new }
 {
     in_register_span(out, |out| write_reg(out, reg))
 }
 
 // A text, and behind it the bank's letters.
 fn write_in_bank<T: DisplaySink>(out: &mut T, front: &[u8], bank: Bank) -> Result<(), Fault>
-    ensures { Printed T.meaning T.kept (text_items (front.now ++ bank_name bank)) out.old (outcome result) out.new }
+    ensures { Prints T.sink (text_items (front.now ++ bank_name bank)) out.old result out.new }
 {
     write_text(out, front)?;
     write_text(out, bank.name())
 }
 
 fn write_name_in_bank<T: DisplaySink>(out: &mut T, word: &[u8], bank: Bank) -> Result<(), Fault>
-    ensures { Printed T.meaning T.kept (text_items (word.now ++ (codes "_" ++ bank_name bank))) out.old (outcome result) out.new }
+    ensures { Prints T.sink (text_items (word.now ++ (codes "_" ++ bank_name bank))) out.old result out.new }
 {
     write_text(out, word)?;
     write_in_bank(out, b"_", bank)
@@ -115,7 +114,7 @@ fn write_name_in_bank<T: DisplaySink>(out: &mut T, word: &[u8], bank: Bank) -> R
 
 // A banked register.
 pub fn write_banked_reg<T: DisplaySink>(out: &mut T, word: &[u8], bank: Bank) -> Result<(), Fault>
-    ensures printed { Printed T.meaning T.kept (spanned (word.now ++ (codes "_" ++ bank_name bank))) out.old (outcome result) out.new }
+    ensures printed { Prints T.sink (spanned (word.now ++ (codes "_" ++ bank_name bank))) out.old result out.new }
 {
     in_register_span(out, |out| write_name_in_bank(out, word, bank))
 }
@@ -123,7 +122,7 @@ pub fn write_banked_reg<T: DisplaySink>(out: &mut T, word: &[u8], bank: Bank) ->
 // The status register of a bank.
 // Kept: no banked register of the word `spsr`, since `spsr_` is written whole, by a rule of the project (docs/DECISIONS.md).
 pub fn write_banked_spsr<T: DisplaySink>(out: &mut T, bank: Bank) -> Result<(), Fault>
-    ensures printed { Printed T.meaning T.kept (spanned (codes "spsr_" ++ bank_name bank)) out.old (outcome result) out.new }
+    ensures printed { Prints T.sink (spanned (codes "spsr_" ++ bank_name bank)) out.old result out.new }
 {
     in_register_span(out, |out| write_in_bank(out, b"spsr_", bank))
 }

@@ -63,13 +63,17 @@ all_regs = R0 ∷ R1 ∷ R2 ∷ R3 ∷ R4 ∷ R5 ∷ R6 ∷ R7 ∷ R8 ∷ R9 ∷
 abbrev pub list_items : ℕ → List Item
 list_items mask = text_items (codes "{") ++ (joined (map reg_items (chosen all_regs mask)) ++ text_items (codes "}"))
 
+-- the kind of a shift, with what stands around its name
+abbrev pub style_text : ShiftStyle → List ℕ
+style_text s = codes ", " ++ (style_name s ++ codes " ")
+
 -- a shift by an amount: none shows nothing, and those that 0 stands for show what the manual means by it
 abbrev pub amount_text : ShiftStyle → ℕ → List ℕ
-amount_text LSL n = cond (n == 0) [] (codes ", lsl " ++ decimal n)
-amount_text LSR n = codes ", lsr " ++ decimal (cond (n == 0) 32 n)
-amount_text ASR n = codes ", asr " ++ decimal (cond (n == 0) 32 n)
-amount_text ROR n = cond (n == 0) (codes ", rrx") (codes ", ror " ++ decimal n)
+amount_text LSL n = cond (n == 0) [] (style_text LSL ++ decimal n)
+amount_text LSR n = style_text LSR ++ decimal (cond (n == 0) 32 n)
+amount_text ASR n = style_text ASR ++ decimal (cond (n == 0) 32 n)
+amount_text ROR n = cond (n == 0) (codes ", rrx") (style_text ROR ++ decimal n)
 
 abbrev pub shift_items : RegShiftStyle → List Item
 shift_items (RegImm s) = reg_items s.shiftee ++ text_items (amount_text s.stype s.imm)
-shift_items (RegReg s) = reg_items s.shiftee ++ (text_items (codes ", " ++ (style_name s.stype ++ codes " ")) ++ reg_items s.shifter)
+shift_items (RegReg s) = reg_items s.shiftee ++ (text_items (style_text s.stype) ++ reg_items s.shifter)

@@ -4,8 +4,7 @@ ghost use Rattle.std.specs.Prelude.{Bool, List, false, ◌++◌, codes};
 ghost use Rattle.armv7.specs.declared.operand.Operand.TheVariants.{RegWBack, RegDeref, RegDerefPostindexRegShift};
 ghost use Rattle.armv7.specs.Shifts.{shift_fields, shift_word};
 ghost use Rattle.sink.specs.Items.{Item, text_items};
-ghost use Rattle.sink.specs.Outcome.{outcome};
-ghost use Rattle.sink.specs.Printed.{Printed};
+ghost use Rattle.sink.specs.Printed.{Prints};
 ghost use Rattle.visitor.specs.Operands.{bang, minus, offset_text, operand_items};
 ghost use Rattle.visitor.specs.Texts.{reg_items, shift_items};
 
@@ -17,7 +16,7 @@ use text::{write_either, write_flagged, write_prefixed, write_reg, write_text};
 // The end of an address whose offset stands inside it.
 #[inline(always)]
 fn write_close<T: DisplaySink>(out: &mut T, wback: bool) -> Result<(), Fault>
-    ensures { Printed T.meaning T.kept (text_items (codes "]" ++ bang wback)) out.old (outcome result) out.new }
+    ensures { Prints T.sink (text_items (codes "]" ++ bang wback)) out.old result out.new }
 {
     write_either(out, wback, b"]!", b"]")
 }
@@ -25,7 +24,7 @@ fn write_close<T: DisplaySink>(out: &mut T, wback: bool) -> Result<(), Fault>
 // What stands before an offset inside the address.
 #[inline(always)]
 fn write_comma<T: DisplaySink>(out: &mut T, add: bool) -> Result<(), Fault>
-    ensures { Printed T.meaning T.kept (text_items (codes ", " ++ minus add)) out.old (outcome result) out.new }
+    ensures { Prints T.sink (text_items (codes ", " ++ minus add)) out.old result out.new }
 {
     write_either(out, add, b", ", b", -")
 }
@@ -33,14 +32,14 @@ fn write_comma<T: DisplaySink>(out: &mut T, add: bool) -> Result<(), Fault>
 // What stands before a shift behind the address.
 #[inline(always)]
 fn write_past_blank<T: DisplaySink>(out: &mut T, add: bool) -> Result<(), Fault>
-    ensures { Printed T.meaning T.kept (text_items (codes "], " ++ (minus add ++ codes " "))) out.old (outcome result) out.new }
+    ensures { Prints T.sink (text_items (codes "], " ++ (minus add ++ codes " "))) out.old result out.new }
 {
     write_either(out, add, b"],  ", b"], - ")
 }
 
 #[inline(always)]
 fn write_base<T: DisplaySink>(out: &mut T, base: Reg) -> Result<(), Fault>
-    ensures { Printed T.meaning T.kept (text_items (codes "[") ++ reg_items base) out.old (outcome result) out.new }
+    ensures { Prints T.sink (text_items (codes "[") ++ reg_items base) out.old result out.new }
 {
     write_text(out, b"[")?;
     write_reg(out, base)
@@ -52,7 +51,7 @@ pub(crate) trait Offset: Copy {
     ghost items: { Self → Bool → List Item };
 
     fn write<T: DisplaySink>(self, out: &mut T, add: bool) -> Result<(), Fault>
-        ensures { Printed T.meaning T.kept (items self add) out.old (outcome result) out.new };
+        ensures { Prints T.sink (items self add) out.old result out.new };
 }
 
 impl Offset for RegShift {
@@ -91,7 +90,7 @@ impl Offset for Reg {
 
 #[inline(always)]
 pub fn write_reg_wback<T: DisplaySink>(out: &mut T, reg: Reg, wback: bool) -> Result<(), Fault>
-    ensures printed { Printed T.meaning T.kept (operand_items (RegWBack reg wback)) out.old (outcome result) out.new }
+    ensures printed { Prints T.sink (operand_items (RegWBack reg wback)) out.old result out.new }
 {
     write_reg(out, reg)?;
     write_flagged(out, wback, b"!")
@@ -99,7 +98,7 @@ pub fn write_reg_wback<T: DisplaySink>(out: &mut T, reg: Reg, wback: bool) -> Re
 
 #[inline(always)]
 pub(crate) fn write_deref<T: DisplaySink>(out: &mut T, reg: Reg) -> Result<(), Fault>
-    ensures { Printed T.meaning T.kept (operand_items (RegDeref reg)) out.old (outcome result) out.new }
+    ensures { Prints T.sink (operand_items (RegDeref reg)) out.old result out.new }
 {
     write_base(out, reg)?;
     write_text(out, b"]")
@@ -114,7 +113,7 @@ pub(crate) fn write_preindex<T: DisplaySink, O: Offset>(
     add: bool,
     wback: bool,
 ) -> Result<(), Fault>
-    ensures { Printed T.meaning T.kept (text_items (codes "[") ++ (reg_items base ++ (O.items offset add ++ text_items (codes "]" ++ bang wback)))) out.old (outcome result) out.new }
+    ensures { Prints T.sink (text_items (codes "[") ++ (reg_items base ++ (O.items offset add ++ text_items (codes "]" ++ bang wback)))) out.old result out.new }
 {
     write_base(out, base)?;
     offset.write(out, add)?;
@@ -130,7 +129,7 @@ pub(crate) fn write_postindex<T: DisplaySink, O: Offset>(
     add: bool,
     wback: bool,
 ) -> Result<(), Fault>
-    ensures { Printed T.meaning T.kept (operand_items (RegDeref base) ++ (O.items offset add ++ text_items (bang wback))) out.old (outcome result) out.new }
+    ensures { Prints T.sink (operand_items (RegDeref base) ++ (O.items offset add ++ text_items (bang wback))) out.old result out.new }
 {
     write_deref(out, base)?;
     offset.write(out, add)?;
@@ -145,7 +144,7 @@ pub(crate) fn write_postindex_reg_shift<T: DisplaySink>(
     shift: RegShift,
     add: bool,
 ) -> Result<(), Fault>
-    ensures { Printed T.meaning T.kept (operand_items (RegDerefPostindexRegShift base shift add false)) out.old (outcome result) out.new }
+    ensures { Prints T.sink (operand_items (RegDerefPostindexRegShift base shift add false)) out.old result out.new }
 {
     write_base(out, base)?;
     write_past_blank(out, add)?;

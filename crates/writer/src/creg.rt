@@ -1,8 +1,7 @@
 // The names of control registers.
 ghost use Rattle.std.specs.Prelude.{◌≡◌, ◌++◌, codes};
 ghost use Rattle.armv7.specs.Registers.{creg_number};
-ghost use Rattle.sink.specs.Outcome.{outcome};
-ghost use Rattle.sink.specs.Printed.{Printed};
+ghost use Rattle.sink.specs.Printed.{Prints};
 ghost use Rattle.visitor.specs.Texts.{spanned, decimal};
 
 use armv7::{CReg, Fault};
@@ -21,7 +20,7 @@ fn creg_name(reg: CReg) -> &'static [u8]
 }
 
 pub(crate) fn write_creg<T: DisplaySink>(out: &mut T, reg: CReg) -> Result<(), Fault>
-    ensures { Printed T.meaning T.kept (spanned (codes "c" ++ decimal (creg_number reg))) out.old (outcome result) out.new }
+    ensures { Prints T.sink (spanned (codes "c" ++ decimal (creg_number reg))) out.old result out.new }
 {
     write_spanned(out, creg_name(reg))
 }

@@ -1,7 +1,6 @@
 // A visitor that writes each operand to a sink.
-ghost use Rattle.sink.specs.Outcome.{outcome};
 ghost use Rattle.visitor.specs.Operands.{operand_items, operand_refused};
-ghost use Rattle.visitor.specs.Visits.{PrintedUnless};
+ghost use Rattle.visitor.specs.Visits.{PrintsUnless};
 ghost use Rattle.writer.specs.Writing.{Written};
 
 use crate::address::{
@@ -27,7 +26,7 @@ impl<T: DisplaySink> OperandVisitor for DisplayingOperandVisitor<'_, T> {
 
     type Error = Fault;
 
-    ghost answers = { Written T.DisplaySink.meaning T.DisplaySink.kept };
+    ghost answers = { Written T.DisplaySink.sink };
 
     fn visit_reg(&mut self, reg: Reg) -> Result<(), Fault> {
         write_reg(self.f, reg)
@@ -172,7 +171,7 @@ impl<T: DisplaySink> OperandVisitor for DisplayingOperandVisitor<'_, T> {
 // Any operand, by a visit. Not inline: inline, it makes registers and numbers slower.
 #[inline(never)]
 fn write_visited<T: DisplaySink>(out: &mut T, operand: &Operand) -> Result<(), Fault>
-    ensures { PrintedUnless T.meaning T.kept (operand_refused 0 operand.now) (operand_items operand.now) out.old (outcome result) out.new }
+    ensures { PrintsUnless T.sink (operand_refused 0 operand.now) (operand_items operand.now) out.old result out.new }
 {
     let mut visitor = DisplayingOperandVisitor { f: out };
     visit(operand, &mut visitor)
@@ -182,7 +181,7 @@ fn write_visited<T: DisplaySink>(out: &mut T, operand: &Operand) -> Result<(), F
 // Kept: registers and numbers by themselves, inline and with no visit, since they are what most operands are (docs/SPEED.md).
 #[inline(always)]
 pub fn write_operand<T: DisplaySink>(out: &mut T, operand: &Operand) -> Result<(), Fault>
-    ensures printed_or_refused { PrintedUnless T.meaning T.kept (operand_refused 0 operand.now) (operand_items operand.now) out.old (outcome result) out.new }
+    ensures printed_or_refused { PrintsUnless T.sink (operand_refused 0 operand.now) (operand_items operand.now) out.old result out.new }
 {
     match *operand {
         Operand::Reg(reg) => write_reg(out, reg),

@@ -9,12 +9,12 @@ use Rattle.runs.proofs.run.Goals as goal
 pub loop-entry-init : goal.loop-entry-init
 loop-entry-init g c =
     let is = c.new-page.ensures.made in
-    (subst (λ p. Driven g.S.DisplaySink.meaning g.S.DisplaySink.kept own p.sink [] p) (sym is) made, refl)
+    (subst (λ p. Driven g.S.DisplaySink.sink own p.sink [] p) (sym is) made, refl)
 
 pub loop-entry-preserved : goal.loop-entry-preserved
 loop-entry-preserved g c =
     let within : c.loop-entry.entry-index < length c.loop-entry.entries = omega (arith, c.loop-entry.auto.entries, c.loop-entry-test.true) in (
-      driven_more g.S.DisplaySink.meaning g.S.DisplaySink.kept own c.new-page.result.sink c.loop-entry.entries c.loop-entry.entry-index _ c.call-entry.result within c.loop-entry.invariant.0 c.call-entry.ensures.step,
+      driven_more g.S.DisplaySink.sink own c.new-page.result.sink c.loop-entry.entries c.loop-entry.entry-index _ c.call-entry.result within c.loop-entry.invariant.0 c.call-entry.ensures.step,
       calls_kept c.loop-entry.entries c.loop-entry.entry-index _ c.call-entry.result ∙ c.loop-entry.invariant.1,
     )
 
@@ -22,13 +22,13 @@ pub returns : goal.returns
 returns g c =
     let meaning = g.S.DisplaySink.meaning in
     let kept = g.S.DisplaySink.kept in
-    let laws = g.S.DisplaySink.laws in
+    let sink = g.S.DisplaySink.sink in
     let page = c.loop-entry.page in
     let whole : length c.loop-entry.entries ≤ c.loop-entry.entry-index = omega (arith, c.loop-entry.auto.entries, c.loop-entry-test.false) in
-    let chain : Driven meaning kept own c.new-page.result.sink c.loop-entry.entries page = subst (λ es. Driven meaning kept own c.new-page.result.sink es page) (take_all c.loop-entry.entry-index c.loop-entry.entries whole) c.loop-entry.invariant.0 in
-    let from : Driven meaning kept own c.args.sink c.loop-entry.entries page = subst (λ p. Driven meaning kept own p.sink c.loop-entry.entries page) c.new-page.ensures.made chain in
-    let end = state laws own c.args.sink from in
-    let held : Run own (meaning c.args.sink) (map called c.args.entries.now) c.loop-entry.entries (meaning page.sink) page.count = law laws own c.args.sink lawful_own end (map called c.args.entries.now) c.loop-entry.invariant.1 in
+    let chain : Driven sink own c.new-page.result.sink c.loop-entry.entries page = subst (λ es. Driven sink own c.new-page.result.sink es page) (take_all c.loop-entry.entry-index c.loop-entry.entries whole) c.loop-entry.invariant.0 in
+    let from : Driven sink own c.args.sink c.loop-entry.entries page = subst (λ p. Driven sink own p.sink c.loop-entry.entries page) c.new-page.ensures.made chain in
+    let end = state sink own c.args.sink from in
+    let held : Run own (meaning c.args.sink) (map called c.args.entries.now) c.loop-entry.entries (meaning page.sink) page.count = law sink own c.args.sink lawful_own end (map called c.args.entries.now) c.loop-entry.invariant.1 in
     record {
       law = subst (λ x. Run own (meaning c.args.sink) (map called c.args.entries.now) c.loop-entry.entries (meaning x) c.close.result.count) (sym c.close.ensures.same_sink)
           (subst (λ n. Run own (meaning c.args.sink) (map called c.args.entries.now) c.loop-entry.entries (meaning page.sink) n) (sym c.close.ensures.same_count) held);

@@ -20,7 +20,7 @@ returns-in_err-reached g c =
     let i = c.args.instruction.now in
     let d = c.in_err-reached.field-0.0 in
     let plain = c.if-is_plain.ensures in
-    record { printed_or_refused = refused_then g.T.DisplaySink.meaning g.T.DisplaySink.kept (refused i) (line i) (refusal d) (c.in_err-reached.ensures.refusal ∙ sym plain.refusal) (broke c.from_residual.result d c.from_residual.ensures.1) refl }
+    record { printed_or_refused = refused_then g.T.DisplaySink.sink (refused i) (line i) (refusal d) (c.in_err-reached.ensures.refusal ∙ sym plain.refusal) (broke c.from_residual.result d c.from_residual.ensures.1) refl }
 
 pub returns-then-is_plain : goal.returns-then-is_plain
 unfolding line own_with
@@ -28,4 +28,4 @@ returns-then-is_plain g c =
     let i = c.args.instruction.now in
     let plain = c.if-is_plain.ensures in
     let shown = ap (own_with i) c.in_ok-reached.ensures.value ∙ sym plain.shown in
-    record { printed_or_refused = printed_then g.T.DisplaySink.meaning g.T.DisplaySink.kept (refused i) (line i) (c.in_ok-reached.ensures.refusal ∙ sym plain.refusal) (renamed (ap line_of shown) c.write_plain.ensures) }
+    record { printed_or_refused = printed_then g.T.DisplaySink.sink (refused i) (line i) (c.in_ok-reached.ensures.refusal ∙ sym plain.refusal) (renamed (ap line_of shown) c.write_plain.ensures) }

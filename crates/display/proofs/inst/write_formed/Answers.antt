@@ -11,10 +11,10 @@ pub returns-in_err-form : goal.returns-in_err-form
 returns-in_err-form g c =
     let i = c.args.instruction.now in
     let d = c.in_err-form.field-0.0 in
-    refused_then g.T.DisplaySink.meaning g.T.DisplaySink.kept (refused i) (line i) (refusal d) c.in_err-form.ensures.refusal (broke c.from_residual.result d c.from_residual.ensures.1) refl
+    refused_then g.T.DisplaySink.sink (refused i) (line i) (refusal d) c.in_err-form.ensures.refusal (broke c.from_residual.result d c.from_residual.ensures.1) refl
 
 pub returns : goal.returns
 unfolding line
 returns g c =
     let i = c.args.instruction.now in
-    printed_then g.T.DisplaySink.meaning g.T.DisplaySink.kept (refused i) (line i) c.in_ok-form.ensures.refusal (renamed (ap line_of c.in_ok-form.ensures.shown) c.write_line.ensures)
+    printed_then g.T.DisplaySink.sink (refused i) (line i) c.in_ok-form.ensures.refusal (renamed (ap line_of c.in_ok-form.ensures.shown) c.write_line.ensures)

@@ -5,7 +5,7 @@ use Rattle.display.proofs.inst.write_line.Goals as goal
 
 pub returns-in_err-write_form_word : goal.returns-in_err-write_form_word
 returns-in_err-write_form_word g c =
-    stop g.T.DisplaySink.laws (word_items (word_of c.args.form c.args.instruction.now)) _ c.from_residual.result c.in_err-write_form_word.field-0.0 c.in_err-write_form_word.ensures c.from_residual.ensures.1
+    stop g.T.DisplaySink.sink (word_items (word_of c.args.form c.args.instruction.now)) _ c.from_residual.result c.in_err-write_form_word.field-0.0 c.in_err-write_form_word.ensures c.from_residual.ensures.1
 
 pub returns : goal.returns
-returns g c = both g.T.DisplaySink.laws (word_items (word_of c.args.form c.args.instruction.now)) _ c.in_ok-write_form_word.ensures c.write_rows.ensures
+returns g c = both g.T.DisplaySink.sink (word_items (word_of c.args.form c.args.instruction.now)) _ c.in_ok-write_form_word.ensures c.write_rows.ensures

@@ -14,22 +14,22 @@ use Rattle.display.proofs.operands.write_operands.Goals as goal
 
 pub returns-in_err-write_operand : goal.returns-in_err-write_operand
 returns-in_err-write_operand g c =
-    let laws = g.T.DisplaySink.laws in
+    let sink = g.T.DisplaySink.sink in
     let os = c.args.reached.operands.now in
     let o = at os 0 in
     let r = c.from_residual-in_err-write_operand in
     renamed (ap (λ l. behind_word (map operand_items l)) (first_split os c.in-len1-up.len_at_least))
-    (both laws (text_items (codes " ")) _ c.in_ok-write_text.ensures.printed
-    (stop laws (operand_items o) (followed (map operand_items (take (length os - 1) (drop 1 os)))) r.result c.in_err-write_operand.field-0.0 (printed_at o (c.args.reached.clean 0 (One R0) c.in-len1-up.len_at_least) c.in_err-write_operand.ensures.printed_or_refused) r.ensures.1))
+    (both sink (text_items (codes " ")) _ c.in_ok-write_text.ensures.printed
+    (stop sink (operand_items o) (followed (map operand_items (take (length os - 1) (drop 1 os)))) r.result c.in_err-write_operand.field-0.0 (printed_at o (c.args.reached.clean 0 (One R0) c.in-len1-up.len_at_least) c.in_err-write_operand.ensures.printed_or_refused) r.ensures.1))
 
 pub invariant_of-write_followed : goal.invariant_of-write_followed
 invariant_of-write_followed g c = record { few = omega (arith, c.args.reached.few); clean = All-take HasText _ _ (All-drop HasText 1 _ c.args.reached.clean) }
 
 pub returns : goal.returns
 returns g c =
-    let laws = g.T.DisplaySink.laws in
+    let sink = g.T.DisplaySink.sink in
     let os = c.args.reached.operands.now in
     let o = at os 0 in
     renamed (ap (λ l. behind_word (map operand_items l)) (first_split os c.in-len1-up.len_at_least))
-    (both laws (text_items (codes " ")) _ c.in_ok-write_text.ensures.printed
-    (both laws (operand_items o) _ (printed_at o (c.args.reached.clean 0 (One R0) c.in-len1-up.len_at_least) c.in_ok-write_operand.ensures.printed_or_refused) c.write_followed.ensures))
+    (both sink (text_items (codes " ")) _ c.in_ok-write_text.ensures.printed
+    (both sink (operand_items o) _ (printed_at o (c.args.reached.clean 0 (One R0) c.in-len1-up.len_at_least) c.in_ok-write_operand.ensures.printed_or_refused) c.write_followed.ensures))

@@ -8,53 +8,53 @@ use Rattle.display.proofs.rows.write_block.Goals as goal
 
 pub returns-in_err-write_text : goal.returns-in_err-write_text
 returns-in_err-write_text g c =
-    let laws = g.T.DisplaySink.laws in
-    record { printed = stop laws (text_items (codes " ")) _ c.from_residual.result c.in_err-write_text.field-0.0 c.in_err-write_text.ensures.printed c.from_residual.ensures.1 }
+    let sink = g.T.DisplaySink.sink in
+    record { printed = stop sink (text_items (codes " ")) _ c.from_residual.result c.in_err-write_text.field-0.0 c.in_err-write_text.ensures.printed c.from_residual.ensures.1 }
 
 pub returns-in_err-write_reg_wback : goal.returns-in_err-write_reg_wback
 returns-in_err-write_reg_wback g c =
-    let laws = g.T.DisplaySink.laws in
+    let sink = g.T.DisplaySink.sink in
     let base = reg_items c.args.block.base ++ text_items (bang c.args.block.wback) in
     let r = c.from_residual-in_err-write_reg_wback in
     record {
-      printed = both laws (text_items (codes " ")) _ c.in_ok-write_text.ensures.printed
-          (stop laws (base) _ r.result c.in_err-write_reg_wback.field-0.0 c.in_err-write_reg_wback.ensures.printed r.ensures.1);
+      printed = both sink (text_items (codes " ")) _ c.in_ok-write_text.ensures.printed
+          (stop sink (base) _ r.result c.in_err-write_reg_wback.field-0.0 c.in_err-write_reg_wback.ensures.printed r.ensures.1);
     }
 
 pub returns-in_err-write_text-2 : goal.returns-in_err-write_text-2
 returns-in_err-write_text-2 g c =
-    let laws = g.T.DisplaySink.laws in
+    let sink = g.T.DisplaySink.sink in
     let base = reg_items c.args.block.base ++ text_items (bang c.args.block.wback) in
     let r = c.from_residual-in_err-write_text-2 in
     record {
-      printed = both laws (text_items (codes " ")) _ c.in_ok-write_text.ensures.printed
-          (both laws base _ c.in_ok-write_reg_wback.ensures.printed
-          (stop laws (text_items (codes ", ")) _ r.result c.in_err-write_text-2.field-0.0 c.in_err-write_text-2.ensures.printed r.ensures.1));
+      printed = both sink (text_items (codes " ")) _ c.in_ok-write_text.ensures.printed
+          (both sink base _ c.in_ok-write_reg_wback.ensures.printed
+          (stop sink (text_items (codes ", ")) _ r.result c.in_err-write_text-2.field-0.0 c.in_err-write_text-2.ensures.printed r.ensures.1));
     }
 
 pub returns-in_err-write_list : goal.returns-in_err-write_list
 returns-in_err-write_list g c =
-    let laws = g.T.DisplaySink.laws in
+    let sink = g.T.DisplaySink.sink in
     let base = reg_items c.args.block.base ++ text_items (bang c.args.block.wback) in
     let list = list_items c.args.block.mask in
     let caret = text_items (flagged c.args.block.transfer.user (codes "^")) in
     let r = c.from_residual-in_err-write_list in
     record {
-      printed = both laws (text_items (codes " ")) _ c.in_ok-write_text.ensures.printed
-          (both laws base _ c.in_ok-write_reg_wback.ensures.printed
-          (both laws (text_items (codes ", ")) _ c.in_ok-write_text-2.ensures.printed
-          (renamed (sym (append-nil (list ++ caret))) (stop laws (list) caret r.result c.in_err-write_list.field-0.0 c.in_err-write_list.ensures.printed r.ensures.1))));
+      printed = both sink (text_items (codes " ")) _ c.in_ok-write_text.ensures.printed
+          (both sink base _ c.in_ok-write_reg_wback.ensures.printed
+          (both sink (text_items (codes ", ")) _ c.in_ok-write_text-2.ensures.printed
+          (renamed (sym (append-nil (list ++ caret))) (stop sink (list) caret r.result c.in_err-write_list.field-0.0 c.in_err-write_list.ensures.printed r.ensures.1))));
     }
 
 pub returns : goal.returns
 returns g c =
-    let laws = g.T.DisplaySink.laws in
+    let sink = g.T.DisplaySink.sink in
     let base = reg_items c.args.block.base ++ text_items (bang c.args.block.wback) in
     let list = list_items c.args.block.mask in
     let caret = text_items (flagged c.args.block.transfer.user (codes "^")) in
     record {
-      printed = both laws (text_items (codes " ")) _ c.in_ok-write_text.ensures.printed
-          (both laws base _ c.in_ok-write_reg_wback.ensures.printed
-          (both laws (text_items (codes ", ")) _ c.in_ok-write_text-2.ensures.printed
-          (renamed (sym (append-nil (list ++ caret))) (both laws list caret c.in_ok-write_list.ensures.printed c.write_flagged.ensures.printed))));
+      printed = both sink (text_items (codes " ")) _ c.in_ok-write_text.ensures.printed
+          (both sink base _ c.in_ok-write_reg_wback.ensures.printed
+          (both sink (text_items (codes ", ")) _ c.in_ok-write_text-2.ensures.printed
+          (renamed (sym (append-nil (list ++ caret))) (both sink list caret c.in_ok-write_list.ensures.printed c.write_flagged.ensures.printed))));
     }

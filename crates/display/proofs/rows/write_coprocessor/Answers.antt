@@ -10,17 +10,17 @@ use Rattle.display.proofs.rows.write_coprocessor.Goals as goal
 
 pub returns-in_err-write_followed : goal.returns-in_err-write_followed
 returns-in_err-write_followed g c =
-    let laws = g.T.DisplaySink.laws in
+    let sink = g.T.DisplaySink.sink in
     let r = c.from_residual-in_err-write_followed in
     let bs = optional c.args.codes.second in
     let os = map operand_items c.args.reached.operands.now in
     renamed (codes_around c.args.codes.coprocessor bs os (map code_row (optional c.args.codes.third)))
-    (both laws (codes_first c.args.codes.coprocessor bs) _ c.in_ok-write_codes.ensures (stop laws (followed os) _ r.result c.in_err-write_followed.field-0.0 c.in_err-write_followed.ensures r.ensures.1))
+    (both sink (codes_first c.args.codes.coprocessor bs) _ c.in_ok-write_codes.ensures (stop sink (followed os) _ r.result c.in_err-write_followed.field-0.0 c.in_err-write_followed.ensures r.ensures.1))
 
 pub returns : goal.returns
 returns g c =
-    let laws = g.T.DisplaySink.laws in
+    let sink = g.T.DisplaySink.sink in
     let bs = optional c.args.codes.second in
     let os = map operand_items c.args.reached.operands.now in
     renamed (codes_around c.args.codes.coprocessor bs os (map code_row (optional c.args.codes.third)))
-    (both laws (codes_first c.args.codes.coprocessor bs) _ c.in_ok-write_codes.ensures (both laws (followed os) _ c.in_ok-write_followed.ensures c.write_code.ensures))
+    (both sink (codes_first c.args.codes.coprocessor bs) _ c.in_ok-write_codes.ensures (both sink (followed os) _ c.in_ok-write_followed.ensures c.write_code.ensures))

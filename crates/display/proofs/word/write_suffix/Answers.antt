@@ -6,17 +6,17 @@ use Rattle.display.proofs.word.write_suffix.Goals as goal
 
 pub returns-in_err-write_flagged : goal.returns-in_err-write_flagged
 returns-in_err-write_flagged g c =
-    text_stop g.T.DisplaySink.laws (flagged c.args.suffix.s (codes "s")) _ c.from_residual.result c.in_err-write_flagged.field-0.0 c.in_err-write_flagged.ensures.printed c.from_residual.ensures.1
+    text_stop g.T.DisplaySink.sink (flagged c.args.suffix.s (codes "s")) _ c.from_residual.result c.in_err-write_flagged.field-0.0 c.in_err-write_flagged.ensures.printed c.from_residual.ensures.1
 
 pub returns-in_err-write_condition : goal.returns-in_err-write_condition
 returns-in_err-write_condition g c =
-    let laws = g.T.DisplaySink.laws in
+    let sink = g.T.DisplaySink.sink in
     let r = c.from_residual-in_err-write_condition in
-    texts laws (flagged c.args.suffix.s (codes "s")) _ c.in_ok-write_flagged.ensures.printed
-    (text_stop laws (condition_suffix c.args.suffix.condition) _ r.result c.in_err-write_condition.field-0.0 c.in_err-write_condition.ensures r.ensures.1)
+    texts sink (flagged c.args.suffix.s (codes "s")) _ c.in_ok-write_flagged.ensures.printed
+    (text_stop sink (condition_suffix c.args.suffix.condition) _ r.result c.in_err-write_condition.field-0.0 c.in_err-write_condition.ensures r.ensures.1)
 
 pub returns : goal.returns
 returns g c =
-    let laws = g.T.DisplaySink.laws in
-    texts laws (flagged c.args.suffix.s (codes "s")) _ c.in_ok-write_flagged.ensures.printed
-    (texts laws (condition_suffix c.args.suffix.condition) _ c.in_ok-write_condition.ensures c.write_flagged-2.ensures.printed)
+    let sink = g.T.DisplaySink.sink in
+    texts sink (flagged c.args.suffix.s (codes "s")) _ c.in_ok-write_flagged.ensures.printed
+    (texts sink (condition_suffix c.args.suffix.condition) _ c.in_ok-write_condition.ensures c.write_flagged-2.ensures.printed)

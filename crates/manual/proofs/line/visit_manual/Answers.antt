@@ -16,7 +16,7 @@ returns-in_err-form g c =
     let i = c.args.instruction.now in
     let d = c.in_err-form.field-0.0 in
     record {
-      printed = refused_then g.T.DisplaySink.meaning g.T.DisplaySink.kept (manual_refused i) (manual_line i) (refusal d) (refused_first i (refusal d) c.in_err-form.ensures.refusal) (broke c.from_residual.result d c.from_residual.ensures.1) refl;
+      printed = refused_then g.T.DisplaySink.sink (manual_refused i) (manual_line i) (refusal d) (refused_first i (refusal d) c.in_err-form.ensures.refusal) (broke c.from_residual.result d c.from_residual.ensures.1) refl;
     }
 
 pub write_block_line-requires : goal.write_block_line-requires
@@ -34,7 +34,7 @@ returns-in-Block g c =
     let m = many c.in-Block-1.block in
     let found : Some m ≡ moved i = elim c.in-Block-1.branch [ in-Block w ↦ block_found i w.block-is w.in-Block.is told.moves | in-Block-2 w ↦ block_found i w.block-is w.in-Block.is told.moves ] in
     record {
-      printed = printed_then g.T.DisplaySink.meaning g.T.DisplaySink.kept (manual_refused i) (manual_line i) (refused_found i told.refusal found)
+      printed = printed_then g.T.DisplaySink.sink (manual_refused i) (manual_line i) (refused_found i told.refusal found)
           (renamed (ap (λ x. line_of (moved_parts m (suffix_of false x.condition x.w))) c.of.ensures.value ∙ line_found i m found) c.write_block_line.ensures);
     }
 
@@ -45,7 +45,7 @@ returns-in-One g c =
     let m = one c.in-One.load c.in-One.reg in
     let found = sym (ap moved_in c.in-One.is) ∙ told.moves in
     record {
-      printed = printed_then g.T.DisplaySink.meaning g.T.DisplaySink.kept (manual_refused i) (manual_line i) (refused_found i told.refusal found)
+      printed = printed_then g.T.DisplaySink.sink (manual_refused i) (manual_line i) (refused_found i told.refusal found)
           (renamed (ap (λ x. line_of (moved_parts m (suffix_of false x.condition x.w))) c.of.ensures.value ∙ line_found i m found) c.write_one_line.ensures);
     }
 
@@ -55,5 +55,5 @@ returns-in_default g c =
     let told = c.in_ok-form.ensures in
     let none = nothing_moved c.in_ok-form.form c.in_default.not-Block c.in_default.not-Stack c.in_default.not-One in
     record {
-      printed = refused_then g.T.DisplaySink.meaning g.T.DisplaySink.kept (manual_refused i) (manual_line i) _ (refused_found i told.refusal (sym none ∙ told.moves)) refl refl;
+      printed = refused_then g.T.DisplaySink.sink (manual_refused i) (manual_line i) _ (refused_found i told.refusal (sym none ∙ told.moves)) refl refl;
     }

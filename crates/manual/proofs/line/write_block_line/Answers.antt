@@ -20,25 +20,25 @@ returns-in_err-write_word g c =
     let b = c.args.block in
     let suffix = suffix_text c.args.suffix in
     renamed (ap (λ stacked. line_of (cond stacked (short b suffix) (long b suffix))) c.if-is_on_stack.ensures)
-    (stop g.T.DisplaySink.laws (word_items (stack_name b.transfer.load ++ suffix)) _ c.from_residual.result c.in_err-write_word.field-0.0 (renamed (ap (λ n. word_items (n ++ suffix)) c.stack_word.ensures.name) c.in_err-write_word.ensures.printed) c.from_residual.ensures.1)
+    (stop g.T.DisplaySink.sink (word_items (stack_name b.transfer.load ++ suffix)) _ c.from_residual.result c.in_err-write_word.field-0.0 (renamed (ap (λ n. word_items (n ++ suffix)) c.stack_word.ensures.name) c.in_err-write_word.ensures.printed) c.from_residual.ensures.1)
 
 pub returns-in_ok-write_word : goal.returns-in_ok-write_word
 returns-in_ok-write_word g c =
     let b = c.args.block in
     let suffix = suffix_text c.args.suffix in
     renamed (ap (λ stacked. line_of (cond stacked (short b suffix) (long b suffix))) c.if-is_on_stack.ensures)
-    (both g.T.DisplaySink.laws (word_items (stack_name b.transfer.load ++ suffix)) _ (renamed (ap (λ n. word_items (n ++ suffix)) c.stack_word.ensures.name) c.in_ok-write_word.ensures.printed) c.write_stack_list.ensures.printed)
+    (both g.T.DisplaySink.sink (word_items (stack_name b.transfer.load ++ suffix)) _ (renamed (ap (λ n. word_items (n ++ suffix)) c.stack_word.ensures.name) c.in_ok-write_word.ensures.printed) c.write_stack_list.ensures.printed)
 
 pub returns-in_err-write_word-2 : goal.returns-in_err-write_word-2
 returns-in_err-write_word-2 g c =
     let b = c.args.block in
     let suffix = suffix_text c.args.suffix in
     renamed (ap (λ stacked. line_of (cond stacked (short b suffix) (long b suffix))) c.if-is_on_stack.ensures)
-    (stop g.T.DisplaySink.laws (word_items (block_name b.transfer.load b.transfer.add b.transfer.pre ++ suffix)) _ c.from_residual-in_err-write_word-2.result c.in_err-write_word-2.field-0.0 (renamed (ap (λ n. word_items (n ++ suffix)) c.requires) c.in_err-write_word-2.ensures.printed) c.from_residual-in_err-write_word-2.ensures.1)
+    (stop g.T.DisplaySink.sink (word_items (block_name b.transfer.load b.transfer.add b.transfer.pre ++ suffix)) _ c.from_residual-in_err-write_word-2.result c.in_err-write_word-2.field-0.0 (renamed (ap (λ n. word_items (n ++ suffix)) c.requires) c.in_err-write_word-2.ensures.printed) c.from_residual-in_err-write_word-2.ensures.1)
 
 pub returns-in_ok-write_word-2 : goal.returns-in_ok-write_word-2
 returns-in_ok-write_word-2 g c =
     let b = c.args.block in
     let suffix = suffix_text c.args.suffix in
     renamed (ap (λ stacked. line_of (cond stacked (short b suffix) (long b suffix))) c.if-is_on_stack.ensures)
-    (both g.T.DisplaySink.laws (word_items (block_name b.transfer.load b.transfer.add b.transfer.pre ++ suffix)) _ (renamed (ap (λ n. word_items (n ++ suffix)) c.requires) c.in_ok-write_word-2.ensures.printed) c.write_block.ensures.printed)
+    (both g.T.DisplaySink.sink (word_items (block_name b.transfer.load b.transfer.add b.transfer.pre ++ suffix)) _ (renamed (ap (λ n. word_items (n ++ suffix)) c.requires) c.in_ok-write_word-2.ensures.printed) c.write_block.ensures.printed)

@@ -13,17 +13,17 @@ pieces r = ap (λ l. text_items (codes " ") ++ l) (sym (append-nil (one_row r)))
 
 pub returns-in_err-write_text : goal.returns-in_err-write_text
 returns-in_err-write_text g c =
-    renamed (pieces c.args.reg) (stop g.T.DisplaySink.laws (text_items (codes " {")) _ c.from_residual.result c.in_err-write_text.field-0.0 c.in_err-write_text.ensures.printed c.from_residual.ensures.1)
+    renamed (pieces c.args.reg) (stop g.T.DisplaySink.sink (text_items (codes " {")) _ c.from_residual.result c.in_err-write_text.field-0.0 c.in_err-write_text.ensures.printed c.from_residual.ensures.1)
 
 pub returns-in_err-write_reg : goal.returns-in_err-write_reg
 returns-in_err-write_reg g c =
-    let laws = g.T.DisplaySink.laws in
+    let sink = g.T.DisplaySink.sink in
     let r = c.from_residual-in_err-write_reg in
-    renamed (pieces c.args.reg) (both laws (text_items (codes " {")) _ c.in_ok-write_text.ensures.printed
-    (stop laws (reg_items c.args.reg) _ r.result c.in_err-write_reg.field-0.0 c.in_err-write_reg.ensures.printed r.ensures.1))
+    renamed (pieces c.args.reg) (both sink (text_items (codes " {")) _ c.in_ok-write_text.ensures.printed
+    (stop sink (reg_items c.args.reg) _ r.result c.in_err-write_reg.field-0.0 c.in_err-write_reg.ensures.printed r.ensures.1))
 
 pub returns : goal.returns
 returns g c =
-    let laws = g.T.DisplaySink.laws in
-    renamed (pieces c.args.reg) (both laws (text_items (codes " {")) _ c.in_ok-write_text.ensures.printed
-    (both laws (reg_items c.args.reg) _ c.in_ok-write_reg.ensures.printed c.write_text-2.ensures.printed))
+    let sink = g.T.DisplaySink.sink in
+    renamed (pieces c.args.reg) (both sink (text_items (codes " {")) _ c.in_ok-write_text.ensures.printed
+    (both sink (reg_items c.args.reg) _ c.in_ok-write_reg.ensures.printed c.write_text-2.ensures.printed))

@@ -9,6 +9,6 @@ use Rattle.text.proofs.list.write_chosen.Given as goal
 abbrev pub invariant-loop-reg : goal.invariant-loop-reg
 invariant-loop-reg g l =
     (done : List Item)
-    × Printed g.T.DisplaySink.meaning g.T.DisplaySink.kept done l.initial.out None l.out
+    × Printed g.T.DisplaySink.sink done l.initial.out None l.out
     × (done ++ ahead l.rest l.reg-index ≡ joined (map reg_items (chosen all_regs l.mask)))
     × Within l.rest l.reg-index

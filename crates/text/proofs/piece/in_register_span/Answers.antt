@@ -7,15 +7,15 @@ use Rattle.text.proofs.piece.in_register_span.Goals as goal
 
 pub returns-in_err-write : goal.returns-in_err-write
 returns-in_err-write g c is writes =
-    let laws = g.T.DisplaySink.laws in
+    let sink = g.T.DisplaySink.sink in
     let start = c.span_start_register.ensures in
-    both laws (edge Start Register ∷ []) _ (edged laws Start Register start.after start.rest)
-    (stop laws is (edge End Register ∷ []) c.from_residual.result c.in_err-write.field-0.0 (writes _ _ _ c.in_err-write.ensures) c.from_residual.ensures.1)
+    both sink (edge Start Register ∷ []) _ (edged sink Start Register start.marked)
+    (stop sink is (edge End Register ∷ []) c.from_residual.result c.in_err-write.field-0.0 (writes _ _ _ c.in_err-write.ensures) c.from_residual.ensures.1)
 
 pub returns : goal.returns
 returns g c is writes =
-    let laws = g.T.DisplaySink.laws in
+    let sink = g.T.DisplaySink.sink in
     let start = c.span_start_register.ensures in
     let end = c.span_end_register.ensures in
-    both laws (edge Start Register ∷ []) _ (edged laws Start Register start.after start.rest)
-    (both laws is _ (writes _ _ _ c.in_ok-write.ensures) (edged laws End Register end.after end.rest))
+    both sink (edge Start Register ∷ []) _ (edged sink Start Register start.marked)
+    (both sink is _ (writes _ _ _ c.in_ok-write.ensures) (edged sink End Register end.marked))

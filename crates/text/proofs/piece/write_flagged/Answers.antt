@@ -9,4 +9,4 @@ pub returns-then-flag : goal.returns-then-flag
 returns-then-flag g c = record { printed = renamed (ap (λ b. text_items (flagged b c.args.text.now)) (sym c.if-flag.true)) c.write_text.ensures.printed }
 
 pub returns-else-flag : goal.returns-else-flag
-returns-else-flag g c = record { printed = renamed (ap (λ b. text_items (flagged b c.args.text.now)) (sym c.if-flag.false)) (nothing g.T.DisplaySink.laws c.args.out.now) }
+returns-else-flag g c = record { printed = renamed (ap (λ b. text_items (flagged b c.args.text.now)) (sym c.if-flag.false)) (nothing g.T.DisplaySink.sink c.args.out.now) }

@@ -7,13 +7,13 @@ use Rattle.text.proofs.piece.write_spanned.Goals as goal
 
 pub returns-in_err-write_text : goal.returns-in_err-write_text
 returns-in_err-write_text g c =
-    let laws = g.T.DisplaySink.laws in
+    let sink = g.T.DisplaySink.sink in
     let start = c.span_start_register.ensures in
-    record { printed = both laws (edge Start Register ∷ []) _ (edged laws Start Register start.after start.rest) (stop laws (text_items c.args.name.now) (edge End Register ∷ []) c.from_residual.result c.in_err-write_text.field-0.0 c.in_err-write_text.ensures.printed c.from_residual.ensures.1) }
+    record { printed = both sink (edge Start Register ∷ []) _ (edged sink Start Register start.marked) (stop sink (text_items c.args.name.now) (edge End Register ∷ []) c.from_residual.result c.in_err-write_text.field-0.0 c.in_err-write_text.ensures.printed c.from_residual.ensures.1) }
 
 pub returns : goal.returns
 returns g c =
-    let laws = g.T.DisplaySink.laws in
+    let sink = g.T.DisplaySink.sink in
     let start = c.span_start_register.ensures in
     let end = c.span_end_register.ensures in
-    record { printed = both laws (edge Start Register ∷ []) _ (edged laws Start Register start.after start.rest) (both laws (text_items c.args.name.now) _ c.in_ok-write_text.ensures.printed (edged laws End Register end.after end.rest)) }
+    record { printed = both sink (edge Start Register ∷ []) _ (edged sink Start Register start.marked) (both sink (text_items c.args.name.now) _ c.in_ok-write_text.ensures.printed (edged sink End Register end.marked)) }

@@ -2,4 +2,4 @@ use Rattle.sink.proofs.Chain.{wrote}
 use Rattle.text.proofs.piece.write_text.Goals as goal
 
 pub returns : goal.returns
-returns g c = let w = c.write.ensures in record { printed = wrote g.T.DisplaySink.laws _ w.after w.answer w.rest }
+returns g c = record { printed = wrote g.T.DisplaySink.sink _ c.write.ensures.appended }

@@ -13,7 +13,7 @@ returns-then-amount-gt0 g c =
 pub returns-in-LSL : goal.returns-in-LSL
 returns-in-LSL g c =
     let none : c.args.amount ≡ 0 = omega arith in
-    renamed (ap₂ (λ s n. text_items (amount_text s n)) (sym c.in-LSL.is) (sym none)) (nothing g.T.DisplaySink.laws c.args.out.now)
+    renamed (ap₂ (λ s n. text_items (amount_text s n)) (sym c.in-LSL.is) (sym none)) (nothing g.T.DisplaySink.sink c.args.out.now)
 
 pub returns-in-LSR : goal.returns-in-LSR
 returns-in-LSR g c =

@@ -6,5 +6,5 @@ use Rattle.page.proofs.page.Page.gap.Goals as goal
 
 pub returns : goal.returns
 returns g c = record {
-  step = step_of g.S.DisplaySink.meaning g.S.DisplaySink.kept own Gap c.args.self.now c.answer.new.self c.write_gap-wrote.new.out (outcome c.write_gap-wrote.result) c.answer.result c.write_gap-wrote.ensures c.answer.ensures.result_value c.answer.ensures.sink_unchanged c.answer.ensures.count_after;
+  step = step_of g.S.DisplaySink.sink own Gap c.args.self.now c.answer.new.self c.write_gap-wrote.new.out (outcome c.write_gap-wrote.result) c.answer.result c.write_gap-wrote.ensures c.answer.ensures.result_value c.answer.ensures.sink_unchanged c.answer.ensures.count_after;
 }

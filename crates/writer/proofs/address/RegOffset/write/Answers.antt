@@ -7,7 +7,7 @@ use Rattle.writer.proofs.address.RegOffset.write.Goals as goal
 
 pub returns-in_err-write_comma : goal.returns-in_err-write_comma
 returns-in_err-write_comma g c =
-    stop g.T.DisplaySink.laws (text_items (codes ", " ++ minus c.args.add)) (reg_items c.args.self) c.from_residual.result c.in_err-write_comma.field-0.0 c.in_err-write_comma.ensures c.from_residual.ensures.1
+    stop g.T.DisplaySink.sink (text_items (codes ", " ++ minus c.args.add)) (reg_items c.args.self) c.from_residual.result c.in_err-write_comma.field-0.0 c.in_err-write_comma.ensures c.from_residual.ensures.1
 
 pub returns : goal.returns
-returns g c = both g.T.DisplaySink.laws (text_items (codes ", " ++ minus c.args.add)) _ c.in_ok-write_comma.ensures c.write_reg.ensures.printed
+returns g c = both g.T.DisplaySink.sink (text_items (codes ", " ++ minus c.args.add)) _ c.in_ok-write_comma.ensures c.write_reg.ensures.printed

@@ -1,3 +1,0 @@
-mod Chain
-mod Fallback
-mod Operands
