@@ -25,11 +25,11 @@ followed_append (x ∷ xs) ys =
 
 -- an operand that is reached and not refused is printed
 pub printed_at : {S : Type 0} {sink : SinkOf S} (o : Operand) {s t : S} {r : Option Refusal} → operand_refused 0 o ≡ None → PrintedUnless sink (operand_refused 0 o) (operand_items o) s r t → Printed sink (operand_items o) s r t
-printed_at {meaning = meaning} {kept} o {s} {t} {r} e p = subst (λ f. PrintedUnless sink f (operand_items o) s r t) e p
+printed_at {sink = sink} o {s} {t} {r} e p = subst (λ f. PrintedUnless sink f (operand_items o) s r t) e p
 
 -- the first i operands were written
 abbrev pub Sofar : {S : Type 0} → SinkOf S → List Operand → ℕ → S → S → Type 0
-Sofar meaning kept os i s t = Printed sink (followed (map operand_items (take i os))) s None t
+Sofar sink os i s t = Printed sink (followed (map operand_items (take i os))) s None t
 
 -- the operand at a place, as the code reads it
 abbrev pub at : List Operand → ℕ → Operand
@@ -41,10 +41,10 @@ first_split [] h = absurd (omega (arith, h))
 first_split (o ∷ os) h = ap (λ l. o ∷ l) (take_all (length (o ∷ os) - 1) os (omega arith))
 
 module _ {S : Type 0} (sink : SinkOf S) (os : List Operand) where
-  pub past_end : {i : ℕ} {s t : S} → length os ≤ i → Sofar meaning kept os i s t → Printed sink (followed (map operand_items os)) s None t
+  pub past_end : {i : ℕ} {s t : S} → length os ≤ i → Sofar sink os i s t → Printed sink (followed (map operand_items os)) s None t
   past_end {i} h so = renamed (ap (λ l. followed (map operand_items l)) (take_all i os h)) so
 
-  module _ {i : ℕ} {s t : S} (so : Sofar meaning kept os i s t) (texts : All HasText os) (within : i < length os) where
+  module _ {i : ℕ} {s t : S} (so : Sofar sink os i s t) (texts : All HasText os) (within : i < length os) where
     front : List Item
     front = followed (map operand_items (take i os))
 
@@ -74,7 +74,7 @@ module _ {S : Type 0} (sink : SinkOf S) (os : List Operand) where
         renamed (sym whole) (both sink front _ so (both sink (text_items (codes ", ")) _ p (stop sink row rest r d (printed_at (at os i) (texts i (One R0) within) q) e)))
 
     -- one operand more
-    pub more : {u v : S} → Printed sink (text_items (codes ", ")) t None u → PrintedUnless sink (operand_refused 0 (at os i)) (operand_items (at os i)) u None v → Sofar meaning kept os (i + 1) s v
+    pub more : {u v : S} → Printed sink (text_items (codes ", ")) t None u → PrintedUnless sink (operand_refused 0 (at os i)) (operand_items (at os i)) u None v → Sofar sink os (i + 1) s v
     unfolding front row
     more p q =
         let one = at os i ∷ [] in

@@ -7,7 +7,7 @@ use Rattle.armv7.specs.Faults.{refusal}
 use Rattle.sink.specs.declared.sink.Edge.TheVariants.{Start, End}
 use Rattle.sink.specs.declared.sink.Span.TheVariants.{Opcode}
 use Rattle.sink.specs.Items.{edge, text_items}
-use Rattle.sink.specs.Meaning.{SinkOf, marked}
+use Rattle.sink.specs.Meaning.{SinkOf, Marks}
 use Rattle.sink.specs.Outcome.{outcome}
 use Rattle.sink.specs.Printed.{Printed}
 use Rattle.sink.proofs.Chain.{both, stop, edged}
@@ -24,8 +24,8 @@ pub letters_suffix : (c : ConditionCode) (n : List ℕ) → n ≡ condition_name
 letters_suffix c n e l f = two_letters n l ∙ e ∙ ap (λ b. cond b [] (condition_name c)) f
 
 module _ {S : Type 0} (sink : SinkOf S) (word : List ℕ) {s t u : S} where
-  pub in_word : {v : S} → meaning t ≡ marked Start Opcode (meaning s) → kept s t → Printed sink (text_items word) t None u → meaning v ≡ marked End Opcode (meaning u) → kept u v → Printed sink (word_items word) s None v
-  in_word a k x b l = both sink (edge Start Opcode ∷ []) _ (edged sink Start Opcode a k) (both sink (text_items word) _ x (edged sink End Opcode b l))
+  pub in_word : {v : S} → Marks sink Start Opcode s t → Printed sink (text_items word) t None u → Marks sink End Opcode u v → Printed sink (word_items word) s None v
+  in_word a x b = both sink (edge Start Opcode ∷ []) _ (edged sink Start Opcode a) (both sink (text_items word) _ x (edged sink End Opcode b))
 
-  pub in_word_stop : {A : Type 0} (r : Result A Fault) (d : Fault) → meaning t ≡ marked Start Opcode (meaning s) → kept s t → Printed sink (text_items word) t (Some (refusal d)) u → IsErrAnd r (λ y. y ≡ d) → Printed sink (word_items word) s (outcome r) u
-  in_word_stop r d a k x e = both sink (edge Start Opcode ∷ []) _ (edged sink Start Opcode a k) (stop sink (text_items word) (edge End Opcode ∷ []) r d x e)
+  pub in_word_stop : {A : Type 0} (r : Result A Fault) (d : Fault) → Marks sink Start Opcode s t → Printed sink (text_items word) t (Some (refusal d)) u → IsErrAnd r (λ y. y ≡ d) → Printed sink (word_items word) s (outcome r) u
+  in_word_stop r d a x e = both sink (edge Start Opcode ∷ []) _ (edged sink Start Opcode a) (stop sink (text_items word) (edge End Opcode ∷ []) r d x e)

@@ -9,7 +9,7 @@ use armv7::Fault;
 use sink::DisplaySink;
 
 // The digits of base 16, in order.
-pub const HEX_DIGITS: [u8; 16] = *b"0123456789abcdef";
+const HEX_DIGITS: [u8; 16] = *b"0123456789abcdef";
 
 // Puts `0x` before the start of the digits, and answers where that begins.
 #[inline(always)]
@@ -42,22 +42,12 @@ fn fill_prefixed(memory: &mut [u8; 10], number: u64) -> usize
     mark_base(memory, 2)
 }
 
-// `0x` and the last eight digits of the number in base 16, without leading zeros: at the end of ten bytes, with where that begins.
-#[inline(always)]
-pub fn prefixed_digits(number: u64) -> ([u8; 10], usize)
-    ensures range { result.1 ≤ 10 }
-    ensures value { drop result.1 result.0 ≡ prefixed 8 number }
-{
-    let mut memory = [0u8; 10];
-    let start = fill_prefixed(&mut memory, number);
-    (memory, start)
-}
-
 #[inline(never)]
 fn write_many_digits<T: DisplaySink>(out: &mut T, number: u64) -> Result<(), Fault>
     ensures { Prints T.sink (text_items (prefixed 8 number)) out.old result out.new }
 {
-    let (memory, start) = prefixed_digits(number);
+    let mut memory = [0u8; 10];
+    let start = fill_prefixed(&mut memory, number);
     write_text(out, &memory[start..])
 }
 

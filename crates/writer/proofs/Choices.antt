@@ -2,9 +2,8 @@
 use Rattle.std.proofs.Common.{◌≡◌, ℕ, ◌⊎◌, Bool, true, false, cond, List, [], ◌++◌, codes, sym, refl, ap, ◌∙◌, ap₂, ⊎_elim, ne_eqb}
 use Rattle.armv7.specs.declared.shift.ShiftStyle.{ShiftStyle}
 use Rattle.armv7.specs.declared.shift.ShiftStyle.TheVariants.{LSL, LSR, ASR, ROR}
-use Rattle.armv7.specs.Shifts.{style_name}
 use Rattle.visitor.specs.Operands.{bang, minus}
-use Rattle.visitor.specs.Texts.{amount_text, decimal}
+use Rattle.visitor.specs.Texts.{style_text, amount_text, decimal}
 
 pub close : (w : Bool) → cond w (codes "]!") (codes "]") ≡ codes "]" ++ bang w
 close true = refl
@@ -18,20 +17,16 @@ pub past_blank : (a : Bool) → cond a (codes "],  ") (codes "], - ") ≡ codes 
 past_blank true = refl
 past_blank false = refl
 
--- the word of a kind
-abbrev pub word_of : ShiftStyle → List ℕ
-word_of s = codes ", " ++ (style_name s ++ codes " ")
-
 -- an amount above 0
-pub counted : (s : ShiftStyle) (n : ℕ) → (n ≡ 0 → ⊥) → word_of s ++ decimal n ≡ amount_text s n
-counted LSL n h = sym (ap (λ t. cond t [] (codes ", lsl " ++ decimal n)) (ne_eqb n 0 h))
-counted LSR n h = sym (ap (λ t. codes ", lsr " ++ decimal (cond t 32 n)) (ne_eqb n 0 h))
-counted ASR n h = sym (ap (λ t. codes ", asr " ++ decimal (cond t 32 n)) (ne_eqb n 0 h))
-counted ROR n h = sym (ap (λ t. cond t (codes ", rrx") (codes ", ror " ++ decimal n)) (ne_eqb n 0 h))
+pub counted : (s : ShiftStyle) (n : ℕ) → (n ≡ 0 → ⊥) → style_text s ++ decimal n ≡ amount_text s n
+counted LSL n h = sym (ap (λ t. cond t [] (style_text LSL ++ decimal n)) (ne_eqb n 0 h))
+counted LSR n h = sym (ap (λ t. style_text LSR ++ decimal (cond t 32 n)) (ne_eqb n 0 h))
+counted ASR n h = sym (ap (λ t. style_text ASR ++ decimal (cond t 32 n)) (ne_eqb n 0 h))
+counted ROR n h = sym (ap (λ t. cond t (codes ", rrx") (style_text ROR ++ decimal n)) (ne_eqb n 0 h))
 
 -- an amount of 0, where it stands for 32
-full_at : {s t : ShiftStyle} {n : ℕ} → s ≡ t → n ≡ 0 → word_of t ++ decimal 32 ≡ amount_text t 0 → word_of s ++ decimal 32 ≡ amount_text s n
-full_at e z f = ap (λ x. word_of x ++ decimal 32) e ∙ f ∙ ap₂ amount_text (sym e) (sym z)
+full_at : {s t : ShiftStyle} {n : ℕ} → s ≡ t → n ≡ 0 → style_text t ++ decimal 32 ≡ amount_text t 0 → style_text s ++ decimal 32 ≡ amount_text s n
+full_at e z f = ap (λ x. style_text x ++ decimal 32) e ∙ f ∙ ap₂ amount_text (sym e) (sym z)
 
-pub full : (s : ShiftStyle) (n : ℕ) → (s ≡ LSR) ⊎ (s ≡ ASR) → n ≡ 0 → word_of s ++ decimal 32 ≡ amount_text s n
+pub full : (s : ShiftStyle) (n : ℕ) → (s ≡ LSR) ⊎ (s ≡ ASR) → n ≡ 0 → style_text s ++ decimal 32 ≡ amount_text s n
 full s n k z = ⊎_elim (λ e. full_at e z refl) (λ e. full_at e z refl) k

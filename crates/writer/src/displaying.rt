@@ -168,25 +168,11 @@ impl<T: DisplaySink> OperandVisitor for DisplayingOperandVisitor<'_, T> {
     }
 }
 
-// Any operand, by a visit. Not inline: inline, it makes registers and numbers slower.
-#[inline(never)]
-fn write_visited<T: DisplaySink>(out: &mut T, operand: &Operand) -> Result<(), Fault>
-    ensures { PrintsUnless T.sink (operand_refused 0 operand.now) (operand_items operand.now) out.old result out.new }
-{
-    let mut visitor = DisplayingOperandVisitor { f: out };
-    visit(operand, &mut visitor)
-}
-
 // Writes the text of the operand, or refuses it before anything is written.
-// Kept: registers and numbers by themselves, inline and with no visit, since they are what most operands are (docs/SPEED.md).
 #[inline(always)]
 pub fn write_operand<T: DisplaySink>(out: &mut T, operand: &Operand) -> Result<(), Fault>
     ensures printed_or_refused { PrintsUnless T.sink (operand_refused 0 operand.now) (operand_items operand.now) out.old result out.new }
 {
-    match *operand {
-        Operand::Reg(reg) => write_reg(out, reg),
-        Operand::Imm12(imm) => write_prefixed(out, u32::from(imm)),
-        Operand::Imm32(imm) => write_prefixed(out, imm),
-        _ => write_visited(out, operand),
-    }
+    let mut visitor = DisplayingOperandVisitor { f: out };
+    visit(operand, &mut visitor)
 }

@@ -6,5 +6,5 @@ use Rattle.text.proofs.number.write_many_digits.Goals as goal
 
 pub returns : goal.returns
 returns g c =
-    let filled = c.prefixed_digits-start in
-    renamed (ap text_items (between_to_end filled.result.0 filled.result.1 10 (omega arith) ∙ filled.ensures.value)) c.write_text.ensures.printed
+    let filled = c.fill_prefixed-start in
+    renamed (ap text_items (between_to_end filled.new.memory filled.result 10 (omega arith) ∙ filled.ensures.value)) c.write_text.ensures.printed

@@ -21,4 +21,4 @@ pub returns : goal.returns
 returns g c =
     let sink = g.T.DisplaySink.sink in
     both sink (text_items (codes "[") ++ reg_items c.args.base) _ c.in_ok-write_base.ensures
-    (both sink (text_items (codes "], " ++ (minus c.args.add ++ codes " "))) _ c.in_ok-write_past_blank.ensures c.write_shift.ensures)
+    (both sink (text_items (codes "], " ++ (minus c.args.add ++ codes " "))) _ c.in_ok-write_past_blank.ensures c.write_shift.ensures.printed)

@@ -11,4 +11,4 @@ returns-in_err-write_comma g c =
     stop g.T.DisplaySink.sink (text_items (codes ", " ++ minus c.args.add)) (shift_items (shift_fields (shift_word c.args.self))) c.from_residual.result c.in_err-write_comma.field-0.0 c.in_err-write_comma.ensures c.from_residual.ensures.1
 
 pub returns : goal.returns
-returns g c = both g.T.DisplaySink.sink (text_items (codes ", " ++ minus c.args.add)) _ c.in_ok-write_comma.ensures c.write_shift.ensures
+returns g c = both g.T.DisplaySink.sink (text_items (codes ", " ++ minus c.args.add)) _ c.in_ok-write_comma.ensures c.write_shift.ensures.printed
