@@ -1,4 +1,4 @@
-use Rattle.std.proofs.Common.{arith, map, length, take, drop, ◌-◌, codes, ap}
+use Rattle.std.proofs.Common.{arith, map, length, take, drop, ◌-◌, ◌++◌, codes, ap}
 use Rattle.std.proofs.lemmas.List.Elements.{All-take, All-drop}
 use Rattle.sink.specs.Items.{text_items}
 use Rattle.sink.proofs.Chain.{both, stop}
@@ -11,6 +11,12 @@ use Rattle.lines.specs.Admission.{HasText}
 use Rattle.lines.specs.Lines.{behind_word}
 use Rattle.display.proofs.Followed.{at, first_split, printed_at}
 use Rattle.display.proofs.operands.write_operands.Goals as goal
+
+pub returns-in_err-write_text : goal.returns-in_err-write_text
+returns-in_err-write_text g c =
+    let os = c.args.reached.operands.now in
+    renamed (ap (λ l. behind_word (map operand_items l)) (first_split os c.in-len1-up.len_at_least))
+    (stop g.T.DisplaySink.sink (text_items (codes " ")) (operand_items (at os 0) ++ followed (map operand_items (take (length os - 1) (drop 1 os)))) c.from_residual.result c.in_err-write_text.field-0.0 c.in_err-write_text.ensures.printed c.from_residual.ensures.1)
 
 pub returns-in_err-write_operand : goal.returns-in_err-write_operand
 returns-in_err-write_operand g c =
