@@ -1,9 +1,10 @@
 -- A line on a page: it is written with a line break behind it, or not at all. Assumes nothing.
-use Rattle.std.specs.Prelude.{ℕ, suc, cond, List, [], ◌∷◌, ◌++◌, length, Some, None, Option, nat_lt}
+use Rattle.std.specs.Prelude.{ℕ, suc, cond, List, [], ◌∷◌, ◌++◌, length, Some, None, Option, Result, nat_lt}
+use Rattle.armv7.specs.declared.fault.Fault.{Fault}
 use Rattle.armv7.specs.Faults.{Refusal, refused_with, no_operand}
 use Rattle.sink.specs.Items.{Item, byte, bytes}
 use Rattle.sink.specs.Meaning.{room, SinkOf}
-use Rattle.visitor.specs.Visits.{PrintedUnless}
+use Rattle.visitor.specs.Visits.{PrintsUnless}
 
 -- a refusal of its own comes first; else the page is full where line and line break are longer than the room
 abbrev pub row_refused : Option Refusal → ℕ → ℕ → Option Refusal
@@ -14,6 +15,7 @@ row_refused None room size = cond (nat_lt room (suc size)) (Some (refused_with 1
 abbrev pub row : List Item → List Item
 row is = is ++ byte 10 ∷ []
 
-abbrev pub RowPrinted : {S : Type 0} → SinkOf S → Option Refusal → List Item → S → Option Refusal → S → Type 0
-RowPrinted sink why is before answer after =
-    PrintedUnless sink (row_refused why (room (meaning before)) (length (bytes is))) (row is) before answer after
+-- a call that hands a line with its line break to the sink, unless it is refused
+abbrev pub PrintsRow : {S A : Type 0} → SinkOf S → Option Refusal → List Item → S → Result A Fault → S → Type 0
+PrintsRow sink why is before answer after =
+    PrintsUnless sink (row_refused why (room (sink.meaning before)) (length (bytes is))) (row is) before answer after

@@ -21,8 +21,8 @@ counted_unless (Some why) n = n
 
 -- a line with its line break was taken, and counted
 pub record Lined {S : Type 0} (sink : SinkOf S) (is : List Item) (count : ℕ) (before after : Page S) : Type 0 where
-  pub held : meaning after.sink ≡ taken (row is) (meaning before.sink)
-  pub rest : kept before.sink after.sink
+  pub held : sink.meaning after.sink ≡ taken (row is) (sink.meaning before.sink)
+  pub rest : sink.kept (row is) before.sink after.sink
   pub count_is : after.count ≡ count
 
 -- an accepted call adds its line, and a refused one changes nothing
@@ -31,8 +31,8 @@ Changed sink is (lines n) before after = Lined sink is n before after
 Changed sink is (fault why n) before after = after ≡ before
 
 pub record Step {S : Type 0} (sink : SinkOf S) (s : Spelling) (c : Call) (before : Page S) (answer : Result ℕ PageFault) (after : Page S) : Type 0 where
-  pub answered : told answer ≡ owed s (room (meaning before.sink)) before.count (counted before.count) c
+  pub answered : told answer ≡ owed s (room (sink.meaning before.sink)) before.count (counted before.count) c
   pub changed : Changed sink (call_line s c) (told answer) before after
 
 abbrev pub made_on : {S : Type 0} → S → Page S
-made_on sink = record { sink = sink; count = 0 }
+made_on start = record { sink = start; count = 0 }

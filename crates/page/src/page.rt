@@ -42,7 +42,7 @@ impl<S: RoomSink> Page<S> {
 
     // Prints an instruction's line.
     pub fn print(&mut self, instruction: &Instruction) -> Result<u64, PageFault>
-        ensures step { Step S.DisplaySink.meaning S.DisplaySink.kept own (Print instruction.now) self.old result self.new }
+        ensures step { Step S.DisplaySink.sink own (Print instruction.now) self.old result self.new }
     {
         let wrote = write_line(instruction, &mut self.sink);
         self.answer(wrote)
@@ -50,7 +50,7 @@ impl<S: RoomSink> Page<S> {
 
     // Leaves a line empty.
     pub fn gap(&mut self) -> Result<u64, PageFault>
-        ensures step { Step S.DisplaySink.meaning S.DisplaySink.kept own Gap self.old result self.new }
+        ensures step { Step S.DisplaySink.sink own Gap self.old result self.new }
     {
         let wrote = write_gap(&mut self.sink);
         self.answer(wrote)
@@ -58,7 +58,7 @@ impl<S: RoomSink> Page<S> {
 
     // Makes a call, whichever it is.
     pub fn call(&mut self, call: Call) -> Result<u64, PageFault>
-        ensures step { Step S.DisplaySink.meaning S.DisplaySink.kept own call self.old result self.new }
+        ensures step { Step S.DisplaySink.sink own call self.old result self.new }
     {
         match call {
             Call::Print(instruction) => self.print(&instruction),

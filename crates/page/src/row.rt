@@ -6,7 +6,7 @@ ghost use Rattle.sink.specs.Meaning.{room as room_of};
 ghost use Rattle.sink.specs.Outcome.{outcome};
 ghost use Rattle.lines.specs.Admission.{refused};
 ghost use Rattle.lines.specs.Lines.{line};
-ghost use Rattle.page.specs.Rows.{row_refused, RowPrinted};
+ghost use Rattle.page.specs.Rows.{row_refused, PrintsRow};
 
 use armv7::{Fault, Instruction};
 use display::visit_inst;
@@ -19,7 +19,7 @@ const LONGEST: usize = 285;
 
 // Refuses a line that is too long, with its line break, for the room.
 fn fit<S: RoomSink>(out: &S, size: usize) -> Result<(), Fault>
-    ensures { outcome result ≡ row_refused None (room_of (S.DisplaySink.meaning out.now)) size }
+    ensures refusal { outcome result ≡ row_refused None (room_of (S.DisplaySink.sink.meaning out.now)) size }
 {
     if size < out.room() {
         Ok(())
@@ -33,8 +33,8 @@ fn fit<S: RoomSink>(out: &S, size: usize) -> Result<(), Fault>
 // Kept: nothing is measured, and so nothing refused, where there is room for the longest line: a page is held to a bar of speed
 // (docs/SPEED.md).
 fn fit_line<S: RoomSink>(instruction: &Instruction, out: &S) -> Result<(), Fault>
-    ensures refusal { IfErr result (λ f. Some (refusal_of f) ≡ row_refused (refused instruction.now) (room_of (S.DisplaySink.meaning out.now)) (length (bytes (line instruction.now)))) }
-    ensures fits { IfOk result (λ _. refused instruction.now ≡ row_refused (refused instruction.now) (room_of (S.DisplaySink.meaning out.now)) (length (bytes (line instruction.now)))) }
+    ensures refusal { IfErr result (λ f. Some (refusal_of f) ≡ row_refused (refused instruction.now) (room_of (S.DisplaySink.sink.meaning out.now)) (length (bytes (line instruction.now)))) }
+    ensures fits { IfOk result (λ _. refused instruction.now ≡ row_refused (refused instruction.now) (room_of (S.DisplaySink.sink.meaning out.now)) (length (bytes (line instruction.now)))) }
 {
     if out.room() > LONGEST {
         return Ok(());
@@ -44,7 +44,7 @@ fn fit_line<S: RoomSink>(instruction: &Instruction, out: &S) -> Result<(), Fault
 }
 
 pub(crate) fn write_line<S: RoomSink>(instruction: &Instruction, out: &mut S) -> Result<(), Fault>
-    ensures { RowPrinted S.DisplaySink.meaning S.DisplaySink.kept (refused instruction.now) (line instruction.now) out.old (outcome result) out.new }
+    ensures printed_or_refused { PrintsRow S.DisplaySink.sink (refused instruction.now) (line instruction.now) out.old result out.new }
 {
     fit_line(instruction, out)?;
     visit_inst(instruction, out)?;
@@ -52,7 +52,7 @@ pub(crate) fn write_line<S: RoomSink>(instruction: &Instruction, out: &mut S) ->
 }
 
 pub(crate) fn write_gap<S: RoomSink>(out: &mut S) -> Result<(), Fault>
-    ensures { RowPrinted S.DisplaySink.meaning S.DisplaySink.kept None [] out.old (outcome result) out.new }
+    ensures printed_or_refused { PrintsRow S.DisplaySink.sink None [] out.old result out.new }
 {
     fit(out, 0)?;
     write_text(out, b"\n")

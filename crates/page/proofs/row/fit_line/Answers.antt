@@ -16,7 +16,7 @@ returns-then-room-gt-LONGEST-clause-fits g c = by (refused i) refl
     i = c.args.instruction.now
 
     left : ℕ
-    left = room (g.S.DisplaySink.meaning c.args.out.now)
+    left = room (g.S.DisplaySink.sink.meaning c.args.out.now)
 
     size : ℕ
     size = length (bytes (line i))
@@ -25,7 +25,7 @@ returns-then-room-gt-LONGEST-clause-fits g c = by (refused i) refl
     by (Some why) e = refl
     by None e =
         let bounded = (lines_bounded i e).size in
-        let room_is = c.room.ensures.value in
+        let room_is = c.room.ensures.room in
         let ample = c.if-room-gt-LONGEST.true in
         let short : suc size ≤ left = omega arith in
         sym (ap (λ b. cond b (Some (refused_with 10 no_operand)) None) (le-ltb left (suc size) short))

@@ -5,7 +5,7 @@ use Rattle.sink.specs.Meaning.{SinkOf}
 use Rattle.sink.specs.Outcome.{outcome}
 use Rattle.sink.specs.Printed.{Printed}
 use Rattle.sink.proofs.Chain.{both}
-use Rattle.visitor.specs.Visits.{PrintedUnless}
+use Rattle.visitor.specs.Visits.{PrintedUnless, PrintsUnless}
 use Rattle.lines.specs.Admission.{refused}
 use Rattle.lines.specs.Lines.{line}
 use Rattle.page.specs.Rows.{row}
@@ -21,4 +21,4 @@ pub returns : goal.returns
 returns g c =
     let i = c.args.instruction.now in
     let printed = broken g.S.DisplaySink.sink (refused i) (line i) c.args.out.now c.visit_inst.new.out c.write_text.new.out (outcome c.write_text.result) c.in_ok-visit_inst.ensures.printed_or_refused c.write_text.ensures.printed in
-    subst (λ o. PrintedUnless g.S.DisplaySink.sink o (row (line i)) c.args.out.now (outcome c.write_text.result) c.write_text.new.out) c.in_ok-fit_line.ensures.fits printed
+    record { printed_or_refused = subst (λ o. PrintsUnless g.S.DisplaySink.sink o (row (line i)) c.args.out.now c.write_text.result c.write_text.new.out) c.in_ok-fit_line.ensures.fits printed }

@@ -1,4 +1,3 @@
-use Rattle.sink.specs.Outcome.{outcome}
 use Rattle.armv7.specs.declared.call.Call.TheVariants.{Gap}
 use Rattle.page.specs.Spellings.{own}
 use Rattle.page.proofs.Callings.{step_of}
@@ -6,5 +5,5 @@ use Rattle.page.proofs.page.Page.gap.Goals as goal
 
 pub returns : goal.returns
 returns g c = record {
-  step = step_of g.S.DisplaySink.sink own Gap c.args.self.now c.answer.new.self c.write_gap-wrote.new.out (outcome c.write_gap-wrote.result) c.answer.result c.write_gap-wrote.ensures c.answer.ensures.result_value c.answer.ensures.sink_unchanged c.answer.ensures.count_after;
+  step = step_of g.S.DisplaySink.sink own Gap c.args.self.now c.answer.new.self c.write_gap-wrote.new.out c.write_gap-wrote.result c.answer.result c.write_gap-wrote.ensures.printed_or_refused c.answer.ensures.result_value c.answer.ensures.sink_unchanged c.answer.ensures.count_after;
 }
