@@ -114,78 +114,79 @@ module _ (s : Spelling) where
 module _ {S : Type 0} (sink : SinkOf S) (s : Spelling) (start : S) where
   -- where a chain of calls has come to
   pub record State (es : List Entry) (p : Page S) : Type 0 where
-    pub held : meaning p.sink ≡ taken (page_items (call_lines s (accepted es))) (meaning start)
-    pub rest : kept start p.sink
+    pub held : sink.meaning p.sink ≡ taken (page_items (call_lines s (accepted es))) (sink.meaning start)
+    pub rest : sink.kept (page_items (call_lines s (accepted es))) start p.sink
     pub count_is : p.count ≡ length (accepted es)
     pub admitted : AllByRecursion (Admitted s) (accepted es)
-    pub answers : Answered s (meaning start) es
+    pub answers : Answered s (sink.meaning start) es
 
   -- nothing was called yet
   begun : State [] (made_on start)
-  begun = record { held = (nothing sink start).held; rest = sink.stays start; count_is = refl; admitted = tt; answers = λ earlier later e h. absurd (none_there earlier e later h) }
+  begun = record { held = (nothing sink start).held; rest = sink.laws.stays start; count_is = refl; admitted = tt; answers = λ earlier later e h. absurd (none_there earlier e later h) }
 
   -- the room that the accepted lines have left
-  room_left : {es : List Entry} {p : Page S} → State es p → room (meaning p.sink) ≡ room (meaning start) - length (page_text s (accepted es))
+  room_left : {es : List Entry} {p : Page S} → State es p → room (sink.meaning p.sink) ≡ room (sink.meaning start) - length (page_text s (accepted es))
   room_left {es} st =
-      ap room st.held ∙ room_taken (page_items (call_lines s (accepted es))) (meaning start) ∙ ap (λ b. room (meaning start) - length b) (bytes_page (call_lines s (accepted es)))
+      ap room st.held ∙ room_taken (page_items (call_lines s (accepted es))) (sink.meaning start) ∙ ap (λ b. room (sink.meaning start) - length b) (bytes_page (call_lines s (accepted es)))
 
   -- a count below the text's length has a next number in 64 bits
-  next_number : {es : List Entry} {p : Page S} → State es p → (o : Option Refusal) (size : ℕ) → row_refused o (room (meaning p.sink)) size ≡ None → counted p.count ≡ suc (length (accepted es))
+  next_number : {es : List Entry} {p : Page S} → State es p → (o : Option Refusal) (size : ℕ) → row_refused o (room (sink.meaning p.sink)) size ≡ None → counted p.count ≡ suc (length (accepted es))
   next_number {es} {p} st o size h =
-      let fits : suc size ≤ room (meaning p.sink) = (row_fits o (room (meaning p.sink)) size h).1 in
-      let sound = sink.sound p.sink in
-      let limit : (meaning p.sink).limit < 2 ^ 64 = sound.limit_bits in
-      let long : length (meaning p.sink).text ≡ length (meaning start).text + length (page_text s (accepted es)) = ap (λ m. length m.text) st.held ∙ length-append (meaning start).text _ ∙ ap (λ b. length (meaning start).text + length b) (bytes_page (call_lines s (accepted es))) in
+      let fits : suc size ≤ room (sink.meaning p.sink) = (row_fits o (room (sink.meaning p.sink)) size h).1 in
+      let sound = sink.laws.sound p.sink in
+      let limit : (sink.meaning p.sink).limit < 2 ^ 64 = sound.limit_bits in
+      let long : length (sink.meaning p.sink).text ≡ length (sink.meaning start).text + length (page_text s (accepted es)) = ap (λ m. length m.text) st.held ∙ length-append (sink.meaning start).text _ ∙ ap (λ b. length (sink.meaning start).text + length b) (bytes_page (call_lines s (accepted es))) in
       let grows : length (accepted es) ≤ length (page_text s (accepted es)) = page_grows s (accepted es) in
       ap counted st.count_is ∙ (omega arith)
 
   stepped : {es : List Entry} {p q : Page S} {c : Call} {r : Result ℕ PageFault} → State es p → Step sink s c p r q → State (es ++ record { call = c; answer = r } ∷ []) q
   stepped {es} {p} {q} {c} {r} st x = by (told r) refl x.changed
     where
-      next : row_refused (call_refused s c) (room (meaning p.sink)) (length (bytes (call_line s c))) ≡ None → counted p.count ≡ suc (length (accepted es))
+      next : row_refused (call_refused s c) (room (sink.meaning p.sink)) (length (bytes (call_line s c))) ≡ None → counted p.count ≡ suc (length (accepted es))
       next = next_number st (call_refused s c) (length (bytes (call_line s c)))
 
-      answered : told r ≡ owed s (room (meaning start) - length (page_text s (accepted es))) (length (accepted es)) (suc (length (accepted es))) c
+      answered : told r ≡ owed s (room (sink.meaning start) - length (page_text s (accepted es))) (length (accepted es)) (suc (length (accepted es))) c
       answered =
           x.answered
-          ∙ next_told (row_refused (call_refused s c) (room (meaning p.sink)) (length (bytes (call_line s c)))) p.count (counted p.count) (suc (length (accepted es))) next
-          ∙ ap (λ k. told_by (row_refused (call_refused s c) (room (meaning p.sink)) (length (bytes (call_line s c)))) k (suc (length (accepted es)))) st.count_is
+          ∙ next_told (row_refused (call_refused s c) (room (sink.meaning p.sink)) (length (bytes (call_line s c)))) p.count (counted p.count) (suc (length (accepted es))) next
+          ∙ ap (λ k. told_by (row_refused (call_refused s c) (room (sink.meaning p.sink)) (length (bytes (call_line s c)))) k (suc (length (accepted es)))) st.count_is
           ∙ ap (λ k. owed s k (length (accepted es)) (suc (length (accepted es))) c) (room_left st)
 
       by : (t : Told) → told r ≡ t → Changed sink (call_line s c) t p q → State (es ++ record { call = c; answer = r } ∷ []) q
       by (lines k) h ch =
           let new : accepted (es ++ record { call = c; answer = r } ∷ []) ≡ accepted es ++ c ∷ [] = accepted_push s es (record { call = c; answer = r }) (lines k) h in
-          let fit = told_lines (row_refused (call_refused s c) (room (meaning p.sink)) (length (bytes (call_line s c)))) p.count (counted p.count) k (sym h ∙ x.answered) in
+          let longer : page_items (call_lines s (accepted es)) ++ row (call_line s c) ≡ page_items (call_lines s (accepted (es ++ record { call = c; answer = r } ∷ []))) = sym (lines_push s (accepted es) c) ∙ ap (λ cs. page_items (call_lines s cs)) (sym new) in
+          let fit = told_lines (row_refused (call_refused s c) (room (sink.meaning p.sink)) (length (bytes (call_line s c)))) p.count (counted p.count) k (sym h ∙ x.answered) in
           record {
             held = ch.held
                 ∙ ap (taken (row (call_line s c))) st.held
-                ∙ sym (taken_both (page_items (call_lines s (accepted es))) (row (call_line s c)) (meaning start))
-                ∙ ap (λ is. taken is (meaning start)) (sym (lines_push s (accepted es) c) ∙ ap (λ cs. page_items (call_lines s cs)) (sym new));
-            rest = sink.lasts start p.sink q.sink st.rest ch.rest;
+                ∙ sym (taken_both (page_items (call_lines s (accepted es))) (row (call_line s c)) (sink.meaning start))
+                ∙ ap (λ is. taken is (sink.meaning start)) longer;
+            rest = subst (λ is. sink.kept is start q.sink) longer (sink.laws.adds_up (page_items (call_lines s (accepted es))) (row (call_line s c)) start p.sink q.sink st.rest ch.rest);
             count_is = ch.count_is ∙ fit.1 ∙ next fit.0 ∙ omega (arith, length-append (accepted es) (c ∷ [])) ∙ ap length (sym new);
             admitted = subst (AllByRecursion (Admitted s)) (sym new) (all_append (Admitted s) (accepted es) c st.admitted (row_fits (call_refused s c) _ _ fit.0).0);
-            answers = answers_push s (meaning start) es (record { call = c; answer = r }) st.answers answered;
+            answers = answers_push s (sink.meaning start) es (record { call = c; answer = r }) st.answers answered;
           }
       by (fault f k) h ch =
           let same : accepted (es ++ record { call = c; answer = r } ∷ []) ≡ accepted es = accepted_push s es (record { call = c; answer = r }) (fault f k) h ∙ append-nil (accepted es) in
           record {
-            held = ap (λ z. meaning z.sink) ch ∙ st.held ∙ ap (λ cs. taken (page_items (call_lines s cs)) (meaning start)) (sym same);
-            rest = subst (λ z. kept start z.sink) (sym ch) st.rest;
+            held = ap (λ z. sink.meaning z.sink) ch ∙ st.held ∙ ap (λ cs. taken (page_items (call_lines s cs)) (sink.meaning start)) (sym same);
+            rest = subst (λ z. sink.kept (page_items (call_lines s (accepted (es ++ record { call = c; answer = r } ∷ [])))) start z.sink) (sym ch) (subst (λ cs. sink.kept (page_items (call_lines s cs)) start p.sink) (sym same) st.rest);
             count_is = ap (λ z. z.count) ch ∙ st.count_is ∙ ap length (sym same);
             admitted = subst (AllByRecursion (Admitted s)) (sym same) st.admitted;
-            answers = answers_push s (meaning start) es (record { call = c; answer = r }) st.answers answered;
+            answers = answers_push s (sink.meaning start) es (record { call = c; answer = r }) st.answers answered;
           }
 
   pub state : {es : List Entry} {p : Page S} → Driven sink s start es p → State es p
   state made = begun
   state (then d x) = stepped (state d) x
 
-  pub law : Lawful s → {es : List Entry} {p : Page S} → State es p → (calls : List Call) → map called es ≡ calls → Run s (meaning start) calls es (meaning p.sink) p.count
+  pub law : Lawful s → {es : List Entry} {p : Page S} → State es p → (calls : List Call) → map called es ≡ calls → Run sink s start calls es p.sink p.count
   law w {es} {p} st calls h =
-      let written : (meaning p.sink).text ≡ (meaning start).text ++ page_text s (accepted es) = ap (λ m. m.text) st.held ∙ ap (λ b. (meaning start).text ++ b) (bytes_page (call_lines s (accepted es))) in
+      let written : (sink.meaning p.sink).text ≡ (sink.meaning start).text ++ page_text s (accepted es) = ap (λ m. m.text) st.held ∙ ap (λ b. (sink.meaning start).text ++ b) (bytes_page (call_lines s (accepted es))) in
       let bounds : AllByRecursion (Bounded 285 130) (call_lines s (accepted es)) = all_bounded s w (accepted es) st.admitted in
       let apart = pages_cut.any (map bytes (call_lines s (accepted es))) (all_one_line s (call_lines s (accepted es)) bounds) in
-      let page_is : page_text s (accepted es) ≡ drop (length (meaning start).text) (meaning p.sink).text = sym (ap (drop (length (meaning start).text)) written ∙ drop-append_seam (meaning start).text (page_text s (accepted es))) in
+      let page_is : page_text s (accepted es) ≡ drop (length (sink.meaning start).text) (sink.meaning p.sink).text = sym (ap (drop (length (sink.meaning start).text)) written ∙ drop-append_seam (sink.meaning start).text (page_text s (accepted es))) in
       record {
         calls_stand = h;
         answers = st.answers;
@@ -196,11 +197,12 @@ module _ {S : Type 0} (sink : SinkOf S) (s : Spelling) (start : S) where
         marks = ap (λ m. m.marks) st.held;
         limit_stands = ap (λ m. m.limit) st.held;
         mark_limit_stands = ap (λ m. m.mark_limit) st.held;
+        rest = st.rest;
         sheets = all_fit s w (accepted es) st.admitted;
       }
 
 pub lawful_own : Lawful own
 lawful_own = record { bounded = lines_bounded; fits = own_sheets }
 
-pub steps_make_runs : {S : Type 0} {sink : SinkOf S} → Laws meaning kept → {s : Spelling} → Lawful s → StepsMakeRuns sink s
-steps_make_runs sink {s} w start es p d = let end = state sink s start d in (law sink s start w end (map called es) refl, end.rest)
+pub steps_make_runs : {S : Type 0} (sink : SinkOf S) {s : Spelling} → Lawful s → StepsMakeRuns sink s
+steps_make_runs sink {s} w start es p d = law sink s start w (state sink s start d) (map called es) refl

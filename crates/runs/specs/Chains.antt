@@ -18,7 +18,7 @@ pub data Driven {S : Type 0} (sink : SinkOf S) (s : Spelling) (start : S) : List
       → Step sink s c p r q
       → Driven sink s start (es ++ record { call = c; answer = r } ∷ []) q
 
--- any such chain keeps the law on runs, and leaves what else every call leaves
+-- any such chain keeps the law on runs
 abbrev pub StepsMakeRuns : {S : Type 0} → SinkOf S → Spelling → Type 0
-StepsMakeRuns {S} meaning kept s =
-    (start : S) (es : List Entry) (p : Page S) → Driven sink s start es p → Run s (meaning start) (map called es) es (meaning p.sink) p.count × kept start p.sink
+StepsMakeRuns {S} sink s =
+    (start : S) (es : List Entry) (p : Page S) → Driven sink s start es p → Run sink s start (map called es) es p.sink p.count

@@ -11,8 +11,7 @@ use sink::RoomSink;
 
 // Makes a page on the sink, makes every call in order, writes each answer beside its call, and closes the page.
 pub fn run<S: RoomSink>(sink: S, entries: &mut [Entry]) -> ClosedPage<S>
-    ensures law { Run own (S.DisplaySink.meaning sink) (map called entries.old) entries.new (S.DisplaySink.meaning result.sink) result.count }
-    ensures rest { S.DisplaySink.kept sink result.sink }
+    ensures law { Run S.DisplaySink.sink own sink (map called entries.old) entries.new result.sink result.count }
 {
     let mut page = Page::new(sink);
     for entry in entries.iter_mut() {
@@ -23,5 +22,5 @@ pub fn run<S: RoomSink>(sink: S, entries: &mut [Entry]) -> ClosedPage<S>
 
 // Whoever makes the calls of a page one by one gets the same.
 pub fn steps_make_runs<S: RoomSink>()
-    ensures any_chain { StepsMakeRuns S.DisplaySink.meaning S.DisplaySink.kept own }
+    ensures any_chain { StepsMakeRuns S.DisplaySink.sink own }
 {}

@@ -20,17 +20,13 @@ loop-entry-preserved g c =
 
 pub returns : goal.returns
 returns g c =
-    let meaning = g.S.DisplaySink.meaning in
-    let kept = g.S.DisplaySink.kept in
     let sink = g.S.DisplaySink.sink in
     let page = c.loop-entry.page in
     let whole : length c.loop-entry.entries ≤ c.loop-entry.entry-index = omega (arith, c.loop-entry.auto.entries, c.loop-entry-test.false) in
     let chain : Driven sink own c.new-page.result.sink c.loop-entry.entries page = subst (λ es. Driven sink own c.new-page.result.sink es page) (take_all c.loop-entry.entry-index c.loop-entry.entries whole) c.loop-entry.invariant.0 in
     let from : Driven sink own c.args.sink c.loop-entry.entries page = subst (λ p. Driven sink own p.sink c.loop-entry.entries page) c.new-page.ensures.made chain in
-    let end = state sink own c.args.sink from in
-    let held : Run own (meaning c.args.sink) (map called c.args.entries.now) c.loop-entry.entries (meaning page.sink) page.count = law sink own c.args.sink lawful_own end (map called c.args.entries.now) c.loop-entry.invariant.1 in
+    let held : Run sink own c.args.sink (map called c.args.entries.now) c.loop-entry.entries page.sink page.count = law sink own c.args.sink lawful_own (state sink own c.args.sink from) (map called c.args.entries.now) c.loop-entry.invariant.1 in
     record {
-      law = subst (λ x. Run own (meaning c.args.sink) (map called c.args.entries.now) c.loop-entry.entries (meaning x) c.close.result.count) (sym c.close.ensures.same_sink)
-          (subst (λ n. Run own (meaning c.args.sink) (map called c.args.entries.now) c.loop-entry.entries (meaning page.sink) n) (sym c.close.ensures.same_count) held);
-      rest = subst (kept c.args.sink) (sym c.close.ensures.same_sink) end.rest;
+      law = subst (λ x. Run sink own c.args.sink (map called c.args.entries.now) c.loop-entry.entries x c.close.result.count) (sym c.close.ensures.same_sink)
+          (subst (λ n. Run sink own c.args.sink (map called c.args.entries.now) c.loop-entry.entries page.sink n) (sym c.close.ensures.same_count) held);
     }
