@@ -1,9 +1,9 @@
 // Worked lines, of each form.
+use crate::rooms::MEMORY;
 use armv7::{CReg, ConditionCode, Instruction, Opcode, Operand, Reg, RegShift};
-use composer::print_text;
 use display::visit_inst;
 use measure::measure;
-use sink::{LINE_ROOM, TextSink};
+use sink::TextSink;
 use std::test::Fail;
 
 const NONE: Operand = Operand::Nothing;
@@ -130,16 +130,13 @@ pub(crate) const LINES: [(ConditionCode, Opcode, [Operand; 4], &[u8]); 14] = [
     ),
 ];
 
-// Is the instruction printed as this text in both ways, and measured as that long?
+// Is the instruction printed as this text, and measured as that long?
 fn has_line(instruction: &Instruction, text: &[u8]) -> bool {
-    let mut memory = [0u8; LINE_ROOM];
+    let mut memory = [0u8; MEMORY];
     let mut out = TextSink::new(&mut memory);
-    let visited = visit_inst(instruction, &mut out).is_ok() && out.text() == text;
-    let mut memory = [0u8; LINE_ROOM];
-    let mut out = TextSink::new(&mut memory);
-    let composed = print_text(instruction, &mut out).is_ok() && out.text() == text;
+    let printed = visit_inst(instruction, &mut out).is_ok() && out.text() == text;
     let measured = matches!(measure(instruction), Ok(n) if n == text.len());
-    visited && composed && measured
+    printed && measured
 }
 
 #[test]

@@ -1,10 +1,10 @@
 // Refusals 3 to 8, at each place that can have them.
+use crate::rooms::MEMORY;
 use armv7::{ConditionCode, Fault, Instruction, Opcode, Operand, Place, Reg, RegShift};
-use composer::print_text;
 use display::visit_inst;
 use lines::admit;
 use measure::measure;
-use sink::{LINE_ROOM, TextSink};
+use sink::TextSink;
 use std::test::Fail;
 use writer::write_operand;
 
@@ -100,15 +100,14 @@ fn told(fault: Fault) -> (u8, u8) {
     (fault.number(), fault.place())
 }
 
-// Do the checks, both ways of printing and the measure refuse it with this number and place, and is nothing written?
+// Do the checks, the printer and the measure refuse it with this number and place, and is nothing written?
 fn is_refused(instruction: &Instruction, why: (u8, u8)) -> bool {
-    let mut memory = [0u8; LINE_ROOM];
+    let mut memory = [0u8; MEMORY];
     let mut out = TextSink::new(&mut memory);
-    let visited = matches!(visit_inst(instruction, &mut out), Err(fault) if told(fault) == why);
-    let composed = matches!(print_text(instruction, &mut out), Err(fault) if told(fault) == why);
+    let printed = matches!(visit_inst(instruction, &mut out), Err(fault) if told(fault) == why);
     let admitted = matches!(admit(instruction), Err(fault) if told(fault) == why);
     let measured = matches!(measure(instruction), Err(fault) if told(fault) == why);
-    visited && composed && admitted && measured && out.end() == 0
+    printed && admitted && measured && out.end() == 0
 }
 
 #[test]

@@ -1,10 +1,12 @@
 // Sinks with a byte too little, just enough, and a byte too much.
 use crate::printed::LINES;
 use armv7::{ConditionCode, Fault, Instruction, Opcode, Operand, Reg};
-use composer::print_text;
 use display::visit_inst;
 use measure::measure;
-use sink::{Edge, LINE_ROOM, Mark, MarkSink, Span, TextSink};
+use sink::{Edge, Mark, MarkSink, Span, TextSink};
+
+// More memory than any line takes.
+pub(crate) const MEMORY: usize = 400;
 
 // The longest line.
 pub(crate) const LONGEST: Instruction = Instruction {
@@ -79,49 +81,41 @@ fn written(instruction: &Instruction, buf: &mut [u8]) -> (Result<(), Fault>, usi
     (answer, out.end())
 }
 
-fn composed(instruction: &Instruction, buf: &mut [u8]) -> (Result<(), Fault>, usize) {
-    let mut out = TextSink::new(buf);
-    let answer = print_text(instruction, &mut out);
-    (answer, out.end())
-}
-
-// More memory than any of the rooms.
-const MEMORY: usize = 400;
-
-// Do both ways print a line of this size alike in this room: the same answer and text, and nothing past the text?
-fn is_printed_alike(instruction: &Instruction, size: usize, room: usize) -> bool {
+// Does this room come to hold as much of a line of this size as fits, with the answer to that, and nothing past it?
+fn is_printed_in(instruction: &Instruction, size: usize, room: usize) -> bool {
     let room = room.min(MEMORY);
+    let held = size.min(room);
     let answer = if room < size {
         Err(Fault::SinkFull)
     } else {
         Ok(())
     };
-    let held = (answer, size.min(room));
-    let mut visited = [b'-'; MEMORY];
-    let mut direct = [b'-'; MEMORY];
-    written(instruction, &mut visited[..room]) == held
-        && composed(instruction, &mut direct[..room]) == held
-        && direct == visited
-        && direct.iter().skip(held.1).all(|b| *b == b'-')
+    let mut whole = [b'-'; MEMORY];
+    let mut part = [b'-'; MEMORY];
+    written(instruction, &mut whole) == (Ok(()), size)
+        && written(instruction, &mut part[..room]) == (answer, held)
+        && part[..held] == whole[..held]
+        && part.iter().skip(held).all(|b| *b == b'-')
 }
 
-// Rooms about the size of the line, and about the least in which it is composed right in the memory.
-fn is_printed_alike_in_each_room(instruction: &Instruction, size: usize) -> bool {
+// No room, a byte too little, just enough, and a byte too much.
+fn is_printed_in_each_room(instruction: &Instruction, size: usize) -> bool {
     let short = size.saturating_sub(1);
-    [0, short, size, LINE_ROOM - 1, LINE_ROOM, LINE_ROOM + 1]
+    let long = size.saturating_add(1);
+    [0, short, size, long]
         .iter()
-        .all(|room| is_printed_alike(instruction, size, *room))
+        .all(|room| is_printed_in(instruction, size, *room))
 }
 
 #[test]
-fn both_ways_print_alike_in_each_room(rt: HostRuntime) {
-    assert!(rt; is_printed_alike_in_each_room(&LONGEST, 285));
+fn lines_are_printed_in_each_room(rt: HostRuntime) {
+    assert!(rt; is_printed_in_each_room(&LONGEST, 285));
     for (condition, opcode, operands, text) in LINES {
         let instruction = Instruction {
             condition,
             ..Instruction::plain(opcode, operands)
         };
-        assert!(rt; is_printed_alike_in_each_room(&instruction, text.len()));
+        assert!(rt; is_printed_in_each_room(&instruction, text.len()));
     }
 }
 

@@ -2,7 +2,7 @@
 use crate::options::{Options, Way};
 use armv7::Instruction;
 use buffer::InstructionTextBuffer;
-use composer::print_text;
+use display::visit_inst;
 use measure::measure;
 use page::Page;
 use sink::TextSink;
@@ -15,7 +15,7 @@ const LINE: usize = 512;
 #[inline(never)]
 fn print_to_sink(instruction: &Instruction, memory: &mut [u8]) -> usize {
     let mut out = TextSink::new(memory);
-    match print_text(instruction, &mut out) {
+    match visit_inst(instruction, &mut out) {
         Ok(()) => out.end(),
         Err(_) => 0,
     }

@@ -3,10 +3,9 @@ use crate::difference::{Difference, Seen};
 use crate::line::{Draft, Line, Stored};
 use crate::repair::repaired;
 use armv7::{Fault, Instruction, Operand, Place};
-use composer::print_text;
 use display::visit_inst;
 use kind::{Kind, kind_by};
-use sink::{Mark, MarkSink, TextSink};
+use sink::{Mark, MarkSink};
 use std::alloc::{AllocError, Global};
 
 // The original panicked.
@@ -39,17 +38,6 @@ fn print(heap: Global, instruction: &Instruction) -> Result<Result<Line, Fault>,
     let text = Vec::from_slice(heap, out.text())?;
     let marks = Vec::from_slice(heap, out.marks())?;
     Ok(Ok(Line { text, marks }))
-}
-
-// Whether printing to a sink without marks gives the same text, or the same refusal.
-fn has_same_text(instruction: &Instruction, printed: &Result<Line, Fault>) -> bool {
-    let mut memory = [0u8; BYTES];
-    let mut out = TextSink::new(&mut memory);
-    match (print_text(instruction, &mut out), printed) {
-        (Ok(()), Ok(line)) => out.text() == line.text.as_slice(),
-        (Err(fault), Err(refusal)) => fault == *refusal,
-        _ => false,
-    }
 }
 
 // The panic that the refusal stands for.
@@ -110,19 +98,14 @@ pub(crate) fn judge(
 ) -> Result<Verdict, AllocError> {
     let mut seen = Seen::nothing();
     let taken = repaired(asked, &mut seen);
-    let asked_print = print(heap, asked)?;
-    let taken_print = print(heap, &taken)?;
-    if !has_same_text(asked, &asked_print) || !has_same_text(&taken, &taken_print) {
-        return Ok(Verdict::Unexplained);
-    }
 
     // What was asked is refused as one of the differences that were seen is; what was not repaired is judged as it is.
-    let refused_so = asked_print.is_err_and(|fault| seen.refuse(fault));
+    let refused_so = print(heap, asked)?.is_err_and(|fault| seen.refuse(fault));
     if !seen.is_empty() && !refused_so {
         return Ok(Verdict::Unexplained);
     }
     let seen = seen.joined(read);
-    match taken_print {
+    match print(heap, &taken)? {
         Ok(line) => judge_line(Draft { heap, line, seen }, asked, answer),
         Err(fault) => Ok(judge_refusal(fault, &taken, answer, seen)),
     }
