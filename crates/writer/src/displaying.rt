@@ -168,11 +168,24 @@ impl<T: DisplaySink> OperandVisitor for DisplayingOperandVisitor<'_, T> {
     }
 }
 
-// Writes the text of the operand, or refuses it before anything is written.
-#[inline(always)]
-pub fn write_operand<T: DisplaySink>(out: &mut T, operand: &Operand) -> Result<(), Fault>
+// Any operand, by one visit. Not inline: inline, it makes registers slower.
+#[inline(never)]
+fn write_visited<T: DisplaySink>(out: &mut T, operand: &Operand) -> Result<(), Fault>
     ensures printed_or_refused { PrintsUnless T.sink (operand_refused 0 operand.now) (operand_items operand.now) out.old result out.new }
 {
     let mut visitor = DisplayingOperandVisitor { f: out };
     visit(operand, &mut visitor)
+}
+
+// Writes the text of the operand, or refuses it before anything is written.
+// Kept: registers with no visit. By a visit, the lines of a typical program take 38 instructions more each, 1.47 times the
+// original's in place of 1.33, and miss their bar of 1.40 (docs/SPEED.md).
+#[inline(always)]
+pub fn write_operand<T: DisplaySink>(out: &mut T, operand: &Operand) -> Result<(), Fault>
+    ensures printed_or_refused { PrintsUnless T.sink (operand_refused 0 operand.now) (operand_items operand.now) out.old result out.new }
+{
+    match *operand {
+        Operand::Reg(reg) => write_reg(out, reg),
+        _ => write_visited(out, operand),
+    }
 }
