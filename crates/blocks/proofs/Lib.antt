@@ -1,5 +1,4 @@
 pub mod Bounds
-pub mod Called
 pub mod Exact
 pub mod Lists
 pub mod Masks
@@ -9,7 +8,6 @@ pub mod Operands
 pub mod Pages
 pub mod Printed
 pub mod Rows
-pub mod Shapes
 pub mod Sheets
 pub mod Split
 pub mod Stack

@@ -1,7 +1,12 @@
--- What the table of opcodes says of every mnemonic and form. Assumes nothing.
+-- What the table of opcodes says of every mnemonic and kind. Assumes nothing.
 use Rattle.std.proofs.Common.{◌≡◌, ℕ, ◌+◌, ◌*◌, Bool, true, false, not, ◌&&◌, ◌||◌, eqb, leb, List, [], ◌∷◌, length, codes, arith}
+use Rattle.kind.specs.declared.Kind.{Kind}
+use Rattle.kind.specs.declared.Kind.TheVariants.{Coprocessor}
+use Rattle.kind.specs.declared.Suffixes.{Suffixes}
+use Rattle.kind.specs.declared.Suffixes.TheVariants.{Bare, Conditional, Full}
+use Rattle.kind.specs.Kinds.{optional, kind_of}
 use Rattle.opcode.specs.declared.Opcode.{Opcode}
-use Rattle.opcode.specs.Forms.{Suffixes, bare, conditional, full, Form, form, block, load_one, store_one, pop, push, it, cps, setend, coprocessor, plain}
+use Rattle.opcode.specs.declared.Opcode.TheVariants.{LDM, STM, POP, PUSH}
 use Rattle.opcode.specs.Names.{name_of}
 use Rattle.blocks.specs.Grammar.{transfer, name_letters}
 use Rattle.blocks.proofs.Rows.{Text, text}
@@ -11,41 +16,23 @@ name_text op = text 7 (name_of op) (grind arith)
 
 -- the bytes of a suffix at most
 abbrev pub suffix_room : Suffixes → ℕ
-suffix_room bare = 0
-suffix_room conditional = 2
-suffix_room full = 5
+suffix_room Bare = 0
+suffix_room Conditional = 2
+suffix_room Full = 5
 
 -- whether a coprocessor's line has at most 18 bytes besides its operands, if a row of codes has two at most
-abbrev pub codes_fit : Form → List ℕ → Bool
-codes_fit (block load add pre wback user) name = true
-codes_fit load_one name = true
-codes_fit store_one name = true
-codes_fit pop name = true
-codes_fit push name = true
-codes_fit it name = true
-codes_fit cps name = true
-codes_fit setend name = true
-codes_fit (coprocessor suffixes before behind) name = leb (length name + (suffix_room suffixes + (1 + (4 * length before + 4 * length behind)))) 18
-codes_fit plain name = true
+abbrev pub codes_fit : Kind → List ℕ → Bool
+codes_fit (Coprocessor c) name = leb (length name + (suffix_room c.suffixes + (1 + (4 * length (c.coprocessor ∷ optional c.second) + 4 * length (optional c.third))))) 18
+codes_fit other name = true
 
-pub all_codes_fit : (op : Opcode) → codes_fit (form op) (name_of op) ≡ true
+pub all_codes_fit : (op : Opcode) → codes_fit (kind_of op) (name_of op) ≡ true
 all_codes_fit op = grind arith
 
--- the name that a form says, where it says one
-abbrev pub said : Form → List ℕ → List ℕ
-said (block load add pre wback user) name = name_letters (transfer load add pre)
-said load_one name = name
-said store_one name = name
-said pop name = codes "pop"
-said push name = codes "push"
-said it name = name
-said cps name = name
-said setend name = name
-said (coprocessor suffixes before behind) name = name
-said plain name = name
+pub load_name : (add pre own user : Bool) → name_of (LDM add pre own user) ≡ name_letters (transfer true add pre)
+load_name add pre own user = grind arith
 
-pub own_name : (op : Opcode) → name_of op ≡ said (form op) (name_of op)
-own_name op = grind arith
+pub store_name : (add pre own user : Bool) → name_of (STM add pre own user) ≡ name_letters (transfer false add pre)
+store_name add pre own user = grind arith
 
 -- a byte of a name differs from the byte of the front at its place
 abbrev pub differs : List ℕ → List ℕ → Bool
@@ -57,17 +44,12 @@ differs (x ∷ front) (b ∷ name) = not (eqb x b) || differs front name
 abbrev pub apart : List ℕ → Bool
 apart name = differs (codes "pop") name && (differs (codes "pus") name && (differs (codes "ldm") name && differs (codes "stm") name))
 
-abbrev pub apart_by : Form → List ℕ → Bool
-apart_by (block load add pre wback user) name = true
-apart_by load_one name = apart name
-apart_by store_one name = apart name
-apart_by pop name = true
-apart_by push name = true
-apart_by it name = apart name
-apart_by cps name = apart name
-apart_by setend name = apart name
-apart_by (coprocessor suffixes before behind) name = apart name
-apart_by plain name = apart name
+abbrev pub apart_by : Opcode → Bool
+apart_by (LDM add pre own user) = true
+apart_by (STM add pre own user) = true
+apart_by POP = true
+apart_by PUSH = true
+apart_by other = apart (name_of other)
 
-pub others_apart : (op : Opcode) → apart_by (form op) (name_of op) ≡ true
+pub others_apart : (op : Opcode) → apart_by op ≡ true
 others_apart op = grind arith

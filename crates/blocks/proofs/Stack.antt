@@ -1,5 +1,5 @@
 -- Lines of pop and push: with a list and nothing else they fit its sheet, and any other such line fits none. Assumes nothing.
-use Rattle.std.proofs.Common.{◌≡◌, ℕ, ◌^◌, Bool, true, false, cond, List, [], ◌∷◌, ◌++◌, map, pos, negsuc, Some, None, codes, sym, refl, ap, ◌∙◌, subst, append-nil, add-zero, arith}
+use Rattle.std.proofs.Common.{◌≡◌, ℕ, ◌^◌, Bool, List, [], ◌∷◌, ◌++◌, map, pos, negsuc, Some, None, codes, sym, refl, ap, ◌∙◌, subst, append-nil, add-zero, arith}
 use Rattle.std.proofs.lemmas.Bool.{false≢true, true≢false}
 use Rattle.std.proofs.lemmas.Option.{none-some}
 use Rattle.armv7.specs.declared.instruction.Instruction.{Instruction}
@@ -11,13 +11,12 @@ use Rattle.armv7.specs.Shifts.{shift_fields, shift_word}
 use Rattle.sink.specs.Items.{Item, bytes}
 use Rattle.sink.proofs.Rows.{bytes_append}
 use Rattle.visitor.specs.Operands.{operand_items}
-use Rattle.visitor.specs.Shapes.{shape, no_more, if_list}
 use Rattle.visitor.specs.Texts.{followed, list_items}
 use Rattle.lines.specs.Admission.{reached_refused}
-use Rattle.lines.specs.Lines.{reached}
+use Rattle.lines.specs.Operands.{reached}
 use Rattle.blocks.specs.declared.fields.Sheet.{Sheet}
 use Rattle.blocks.specs.Grammar.{Word, letters, word, list_text, Listed, stack_name, transfer, Fits, stack_line, transfer_line}
-use Rattle.blocks.specs.Sheets.{low, stack_sheet}
+use Rattle.blocks.specs.Sheets.{low, stack_sheet, list_sheet}
 use Rattle.blocks.proofs.Exact.{Exactly, exactly_one, exactly_none}
 use Rattle.blocks.proofs.Lists.{list_read}
 use Rattle.blocks.proofs.Masks.{the_regs, regs_order, regs_stand}
@@ -36,7 +35,7 @@ listed_mask mask = record { regs = the_regs mask; order = regs_order mask; stand
 pub listed_one : (r : Reg) → Listed (codes "{" ++ (reg_name r ++ codes "}")) (2 ^ reg_number r)
 listed_one r = record { regs = r ∷ []; order = (omega arith, tt); stands = sym (add-zero (2 ^ reg_number r)); written = refl }
 
-pub stack_fits : (load : Bool) (mask : ℕ) (i : Instruction) {b : List ℕ} (list : List ℕ) → Listed list mask → b ≡ letters (stack_word load i) ++ (codes " " ++ list) → Fits b (stack_sheet load mask i)
+stack_fits : (load : Bool) (mask : ℕ) (i : Instruction) {b : List ℕ} (list : List ℕ) → Listed list mask → b ≡ letters (stack_word load i) ++ (codes " " ++ list) → Fits b (stack_sheet load mask i)
 stack_fits load mask i list h e = stack_line (record {
   add = refl;
   pre = refl;
@@ -47,6 +46,13 @@ stack_fits load mask i list h e = stack_line (record {
   listed = h;
   written = e;
 })
+
+-- a list and nothing else; its row is a variable, since it computes to as many forms as there are masks
+pub listed_exact : (load : Bool) (i : Instruction) (mask : ℕ) (row : List Item) → Listed (bytes row) mask → Exactly (record { word = letters (stack_word load i); rows = row ∷ [] }) (Some (stack_sheet load mask i))
+listed_exact load i mask row h =
+    exactly_one
+    (stack_fits load mask i (bytes row) h
+    (line_bytes (letters (stack_word load i)) (row ∷ []) ∙ ap (λ l. letters (stack_word load i) ++ (32 ∷ bytes l)) (append-nil row)))
 
 -- behind the word no space and list
 no_list : (load : Bool) (i : Instruction) (x : List ℕ) → Stops Plain x → ((rs : List Reg) → x ≡ 32 ∷ list_text rs → ⊥) → (t : Sheet) → Fits (letters (stack_word load i) ++ x) t → ⊥
@@ -70,14 +76,7 @@ abbrev pub Line : Bool → Instruction → Operand → Operand → List Operand 
 Line load i o p os =
     reached_refused 0 (o ∷ p ∷ os) ≡ None
     → Exactly (record { word = letters (stack_word load i); rows = map operand_items (reached (o ∷ p ∷ os)) })
-    (if_list (shape o) (λ mask. cond (no_more (shape p)) (Some (stack_sheet load (low mask) i)) None) None)
-
--- a list and nothing else; its row is a variable, since it computes to as many forms as there are masks
-list_line : (load : Bool) (i : Instruction) (mask : ℕ) (is : List Item) → is ≡ list_items mask → Exactly (record { word = letters (stack_word load i); rows = is ∷ [] }) (Some (stack_sheet load (low mask) i))
-list_line load i mask is e =
-    exactly_one
-    (stack_fits load (low mask) i (bytes is) (subst (λ l. Listed (bytes l) (low mask)) (sym e) (listed_mask mask))
-    (line_bytes (letters (stack_word load i)) (is ∷ []) ∙ ap (λ l. letters (stack_word load i) ++ (32 ∷ bytes l)) (append-nil is)))
+    (list_sheet load o p i)
 
 -- a list with another operand behind it
 list_and_more : (load : Bool) (i : Instruction) (mask : ℕ) (is : List Item) → is ≡ list_items mask → (r : List Item) (rows : List (List Item)) → Exactly (record { word = letters (stack_word load i); rows = is ∷ r ∷ rows }) None
@@ -97,11 +96,8 @@ no_operands load i =
 pub stack_exact : (load : Bool) (i : Instruction) (o p : Operand) (os : List Operand) → Line load i o p os
 stack_exact load i (One r) p os h = unbraced_none load i _ _ (unbraced_reg r)
 stack_exact load i (RegWBack r w) p os h = unbraced_none load i _ _ (unbraced_append _ (unbraced_reg r))
-stack_exact load i (RegList m) p os h = by (no_more (shape p))
-  where
-    by : (b : Bool) → Exactly (record { word = letters (stack_word load i); rows = list_items m ∷ map operand_items (cond b [] (p ∷ reached os)) }) (cond b (Some (stack_sheet load (low m) i)) None)
-    by true = list_line load i m (list_items m) refl
-    by false = list_and_more load i m (list_items m) refl (operand_items p) (map operand_items (reached os))
+stack_exact load i (RegList m) Nothing os h = listed_exact load i (low m) (list_items m) (listed_mask m)
+stack_exact load i (RegList m) p os h = list_and_more load i m (list_items m) refl (operand_items p) (map operand_items (reached os))
 stack_exact load i (RegDeref r) p os h = unbraced_none load i _ _ (unbraced_byte refl)
 stack_exact load i (Shifted s) p os h = unbraced_none load i _ _ (unbraced_shift (shift_fields (shift_word s)))
 stack_exact load i (RegDerefPostindexRegShift r s a w) p os h = unbraced_none load i _ _ (unbraced_byte refl)

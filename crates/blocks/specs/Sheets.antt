@@ -1,14 +1,21 @@
 -- The sheet of an instruction, if it is a block transfer or a transfer on the stack. Assumes nothing.
-use Rattle.std.specs.Prelude.{◌≡◌, ℕ, ◌%◌, ◌^◌, Bool, true, false, cond, not, ◌&&◌, ◌↔◌, Some, None, Option, ◌==◌}
+use Rattle.std.specs.Prelude.{◌≡◌, ℕ, ◌%◌, ◌^◌, Bool, true, false, not, ◌↔◌, Some, None, Option}
 use Rattle.armv7.specs.declared.instruction.Instruction.{Instruction}
+use Rattle.armv7.specs.declared.operand.Operand.{Operand}
+use Rattle.armv7.specs.declared.operand.Operand.TheVariants.{RegWBack, RegList, Nothing}
 use Rattle.armv7.specs.declared.reg.Reg.{Reg}
 use Rattle.armv7.specs.declared.reg.Reg.TheVariants.{R13}
 use Rattle.armv7.specs.Registers.{reg_number}
-use Rattle.opcode.specs.Forms.{Form, form, block, load_one, store_one, pop, push, it, cps, setend, coprocessor, plain}
+use Rattle.opcode.specs.declared.Opcode.{Opcode}
+use Rattle.opcode.specs.declared.Opcode.TheVariants.{LDM, STM, POP, PUSH}
 use Rattle.sink.specs.Items.{bytes}
-use Rattle.visitor.specs.Shapes.{Shape, no_more, if_one, if_base, if_list, if_post, if_pre}
+use Rattle.lines.specs.declared.alias.StackForm.{StackForm}
+use Rattle.lines.specs.declared.alias.Stacked.{Stacked}
+use Rattle.lines.specs.declared.alias.Stacked.TheVariants.{List as ListOf, One}
 use Rattle.lines.specs.Admission.{refused}
-use Rattle.lines.specs.Lines.{line, shape_at, at_sp, two_only}
+use Rattle.lines.specs.Lines.{line}
+use Rattle.lines.specs.Moved.{on_stack}
+use Rattle.lines.specs.Operands.{operand}
 use Rattle.blocks.specs.declared.fields.Sheet.{Sheet}
 use Rattle.blocks.specs.Grammar.{Fits}
 
@@ -32,49 +39,37 @@ abbrev pub low : ℕ → ℕ
 low mask = mask % 65536
 
 -- a base register, and a list
-abbrev pub block_sheet : Bool → Bool → Bool → Bool → Shape → Shape → Instruction → Option Sheet
-block_sheet load add pre user first second i =
-    if_base first (λ b w. if_list second (λ mask. Some (sheet_with load add pre b w (low mask) user i)) None) None
+abbrev pub block_sheet : Bool → Bool → Bool → Bool → Operand → Operand → Instruction → Option Sheet
+block_sheet load add pre user (RegWBack b w) (RegList mask) i = Some (sheet_with load add pre b w (low mask) user i)
+block_sheet load add pre user first second i = None
 
 -- a load from sp on, which rises, or a store below sp, which falls
 abbrev pub stack_sheet : Bool → ℕ → Instruction → Sheet
 stack_sheet load mask i = sheet_with load load (not load) R13 true mask false i
 
-abbrev pub one_sheet : Bool → Reg → Instruction → Sheet
-one_sheet load t i = stack_sheet load (2 ^ reg_number t) i
-
--- one register from sp, which then rises by 4
-abbrev pub load_sheet : Shape → Shape → Instruction → Option Sheet
-load_sheet first second i =
-    if_one first
-    (λ t. if_post second (λ b n add w. cond (at_sp b && (n == 4 && (add && (not w && two_only i)))) (Some (one_sheet true t i)) None) None)
-    None
-
--- one register below sp, which first falls by 4
-abbrev pub store_sheet : Shape → Shape → Instruction → Option Sheet
-store_sheet first second i =
-    if_one first
-    (λ t. if_pre second (λ b n add w. cond (at_sp b && (n == 4 && (not add && (w && two_only i)))) (Some (one_sheet false t i)) None) None)
-    None
-
 -- a list, and no operand behind it
-abbrev pub list_sheet : Bool → Shape → Shape → Instruction → Option Sheet
-list_sheet load first second i = if_list first (λ mask. cond (no_more second) (Some (stack_sheet load (low mask) i)) None) None
+abbrev pub list_sheet : Bool → Operand → Operand → Instruction → Option Sheet
+list_sheet load (RegList mask) Nothing i = Some (stack_sheet load (low mask) i)
+list_sheet load first second i = None
 
-abbrev pub sheet_by : Form → Instruction → Option Sheet
-sheet_by (block load add pre wback user) i = block_sheet load add pre user (shape_at 0 i) (shape_at 1 i) i
-sheet_by load_one i = load_sheet (shape_at 0 i) (shape_at 1 i) i
-sheet_by store_one i = store_sheet (shape_at 0 i) (shape_at 1 i) i
-sheet_by pop i = list_sheet true (shape_at 0 i) (shape_at 1 i) i
-sheet_by push i = list_sheet false (shape_at 0 i) (shape_at 1 i) i
-sheet_by it i = None
-sheet_by cps i = None
-sheet_by setend i = None
-sheet_by (coprocessor suffixes before behind) i = None
-sheet_by plain i = None
+abbrev pub own_sheet : Opcode → Instruction → Option Sheet
+own_sheet (LDM add pre wback user) i = block_sheet true add pre user (operand 0 i) (operand 1 i) i
+own_sheet (STM add pre wback user) i = block_sheet false add pre user (operand 0 i) (operand 1 i) i
+own_sheet POP i = list_sheet true (operand 0 i) (operand 1 i) i
+own_sheet PUSH i = list_sheet false (operand 0 i) (operand 1 i) i
+own_sheet other i = None
+
+-- the registers that a pop or a push moves
+abbrev pub mask_of : Stacked → ℕ
+mask_of (ListOf mask) = low mask
+mask_of (One r) = 2 ^ reg_number r
+
+abbrev pub sheet_by : Option StackForm → Instruction → Option Sheet
+sheet_by (Some form) i = Some (stack_sheet form.load (mask_of form.moved) i)
+sheet_by None i = own_sheet i.opcode i
 
 unfoldable pub sheet_of : Instruction → Option Sheet
-sheet_of i = sheet_by (form i.opcode) i
+sheet_of i = sheet_by (on_stack i) i
 
 -- if the instruction is printed, its line fits exactly the sheet that is given
 abbrev pub FitsOnly : Instruction → Option Sheet → Type 0

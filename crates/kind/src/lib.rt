@@ -1,9 +1,8 @@
 // The ways to print an instruction, by its opcode.
 #![tactic(auto)]
 
-ghost use Rattle.std.specs.Prelude.{◌≡◌, ◌∷◌};
-ghost use Rattle.opcode.specs.Forms.{form, coprocessor as of_coprocessor};
-ghost use Rattle.kind.specs.Kinds.{form_of, optional, suffixes_of};
+ghost use Rattle.std.specs.Prelude.{◌≡◌};
+ghost use Rattle.kind.specs.Kinds.{coprocessor as coprocessor_kind, kind_of};
 
 use opcode::Opcode;
 
@@ -15,16 +14,6 @@ pub enum Suffixes {
     Full,
 }
 
-// What the opcode of a block transfer says.
-#[derive(Clone, Copy)]
-pub struct Transfer {
-    pub load: bool,
-    pub add: bool,
-    pub pre: bool,
-    pub wback: bool,
-    pub user: bool,
-}
-
 // The coprocessor, and the codes that it is handed before and behind the operands.
 #[derive(Clone, Copy)]
 pub struct Codes {
@@ -34,22 +23,21 @@ pub struct Codes {
     pub third: Option<u8>,
 }
 
-// `One` is a load or a store of one register, and `List` a pop or a push under its own opcode.
 #[derive(Clone, Copy)]
 pub enum Kind {
-    Block(Transfer),
-    One { load: bool },
-    List { load: bool },
+    // A block transfer, perhaps of the registers of user mode.
+    Block { user: bool },
     It,
     Cps,
     Setend,
     Coprocessor(Codes),
+    // Any other: the mnemonic, and the operands.
     Plain,
 }
 
 #[inline(always)]
 fn coprocessor(suffixes: Suffixes, coprocessor: u8, second: Option<u8>, third: Option<u8>) -> Kind
-    ensures { form_of result ≡ of_coprocessor (suffixes_of suffixes) (coprocessor ∷ optional second) (optional third) }
+    ensures kind { result ≡ coprocessor_kind suffixes coprocessor second third }
 {
     Kind::Coprocessor(Codes {
         suffixes,
@@ -61,27 +49,10 @@ fn coprocessor(suffixes: Suffixes, coprocessor: u8, second: Option<u8>, third: O
 
 #[inline(always)]
 pub fn kind_by(opcode: Opcode) -> Kind
-    ensures form { form_of result ≡ form opcode }
+    ensures kind { result ≡ kind_of opcode }
 {
     match opcode {
-        Opcode::POP => Kind::List { load: true },
-        Opcode::PUSH => Kind::List { load: false },
-        Opcode::LDM(add, pre, wback, user) => Kind::Block(Transfer {
-            load: true,
-            add,
-            pre,
-            wback,
-            user,
-        }),
-        Opcode::STM(add, pre, wback, user) => Kind::Block(Transfer {
-            load: false,
-            add,
-            pre,
-            wback,
-            user,
-        }),
-        Opcode::LDR => Kind::One { load: true },
-        Opcode::STR => Kind::One { load: false },
+        Opcode::LDM(_, _, _, user) | Opcode::STM(_, _, _, user) => Kind::Block { user },
         Opcode::IT => Kind::It,
         Opcode::CPS(_) => Kind::Cps,
         Opcode::SETEND => Kind::Setend,

@@ -1,5 +1,3 @@
-pub mod Never
+pub mod Conditions
 pub mod Lowest
-pub mod Numbers
-pub mod Shown
 pub mod Tried

@@ -8,9 +8,8 @@ use Rattle.armv7.specs.declared.operand.Operand.TheVariants.{Reg as One}
 use Rattle.armv7.specs.declared.reg.Reg.TheVariants.{R0}
 use Rattle.armv7.specs.Faults.{Refusal, place_index}
 use Rattle.visitor.specs.Operands.{operand_refused}
-use Rattle.visitor.specs.Shapes.{shape, no_more}
+use Rattle.lines.specs.Operands.{missing, reached}
 use Rattle.lines.specs.Admission.{first_of, reached_refused, HasText}
-use Rattle.lines.specs.Lines.{reached}
 
 -- the operand at a place, as the code reads it
 abbrev at : List Operand → ℕ → Operand
@@ -60,16 +59,16 @@ module _ (os : List Operand) (i : ℕ) (within : i < length os) (so : TriedTo os
   rest_reached : Bool → List Operand
   rest_reached b = cond b [] (at os i ∷ reached (drop (i + 1) os))
 
-  refused_by_rest : (b : Bool) → b ≡ no_more (shape (at os i)) → reached_refused 0 os ≡ rest_refused b
+  refused_by_rest : (b : Bool) → b ≡ missing (at os i) → reached_refused 0 os ≡ rest_refused b
   unfolding rest_refused
   refused_by_rest b e = so.refusal ∙ ap (reached_refused i) here ∙ ap rest_refused (sym e)
 
-  reached_by_rest : (b : Bool) → b ≡ no_more (shape (at os i)) → reached os ≡ take i os ++ rest_reached b
+  reached_by_rest : (b : Bool) → b ≡ missing (at os i) → reached os ≡ take i os ++ rest_reached b
   unfolding rest_reached
   reached_by_rest b e = so.split ∙ ap (λ l. take i os ++ reached l) here ∙ ap (λ b. take i os ++ rest_reached b) (sym e)
 
   -- no more operands are reached
-  module _ (none : true ≡ no_more (shape (at os i))) where
+  module _ (none : true ≡ missing (at os i)) where
     pub ended : None ≡ reached_refused 0 os
     unfolding rest_refused
     ended = sym (refused_by_rest true none)
@@ -78,7 +77,7 @@ module _ (os : List Operand) (i : ℕ) (within : i < length os) (so : TriedTo os
     unfolding rest_reached
     ended_at = sym (reached_by_rest true none ∙ append-nil (take i os))
 
-  module _ (some : false ≡ no_more (shape (at os i))) (tried : Option Refusal) (numbers : i < 4) (told : tried ≡ operand_refused (place_index (get_or (First ∷ Second ∷ Third ∷ Fourth ∷ []) i First)) (at os i)) where
+  module _ (some : false ≡ missing (at os i)) (tried : Option Refusal) (numbers : i < 4) (told : tried ≡ operand_refused (place_index (get_or (First ∷ Second ∷ Third ∷ Fourth ∷ []) i First)) (at os i)) where
     told_here : tried ≡ operand_refused i (at os i)
     told_here = told ∙ ap (λ n. operand_refused n (at os i)) (numbered i numbers)
 

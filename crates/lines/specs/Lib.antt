@@ -1,4 +1,5 @@
 pub mod Admission
-pub mod Codes
 pub mod Forms
 pub mod Lines
+pub mod Moved
+pub mod Operands

@@ -1,81 +1,59 @@
 // Which instructions are printed, and what their lines show: the checks, in their order.
 ghost use Rattle.std.specs.Prelude.{◌≡◌, [], ◌∷◌, IfOk};
-ghost use Rattle.std.specs.Bool.{OnTrue};
-ghost use Rattle.opcode.specs.Forms.{block, it, cps, setend, plain, coprocessor};
 ghost use Rattle.sink.specs.Outcome.{outcome};
-ghost use Rattle.kind.specs.Kinds.{optional, suffixes_of, one_form};
-ghost use Rattle.visitor.specs.Shapes.{shape};
+ghost use Rattle.kind.specs.declared.Kind.TheVariants.{Block as BlockKind, It, Cps, Setend, Coprocessor, Plain};
 ghost use Rattle.lines.specs.Admission.{reached_refused, refused};
-ghost use Rattle.lines.specs.Codes.{mode_of};
-ghost use Rattle.lines.specs.Forms.{parts_of, moved_in, moved, is_plain as shows_operands, AdmittedAs};
-ghost use Rattle.lines.specs.Lines.{four, own_parts, parts};
+ghost use Rattle.lines.specs.Forms.{parts_of, moved_in, AdmittedAs};
+ghost use Rattle.lines.specs.Lines.{mode_of, parts};
+ghost use Rattle.lines.specs.Moved.{moved};
 
-use crate::alias::{stack_register, stacks};
+use crate::alias::stack_form;
 use crate::coprocessor::admit_codes;
 use crate::form::{Block, Form, ItBlock};
-use crate::operands::{admit_operand, admit_reached, is_nothing};
+use crate::operands::{admit_operand, admit_reached, has_two_only};
 use armv7::{ConditionCode, Fault, Instruction, Operand, Place};
-use kind::{Codes, Kind, Transfer, kind_by};
+use kind::{Codes, Kind, kind_by};
 
 #[inline(always)]
 fn admit_plain(instruction: &Instruction) -> Result<Form<'_>, Fault>
-    ensures { AdmittedAs plain instruction.now result }
+    ensures admitted { AdmittedAs Plain instruction.now result }
 {
     Ok(Form::Plain(admit_reached(&instruction.operands)?))
 }
 
-#[inline(always)]
+#[inline(never)]
 fn admit_coprocessor(codes: Codes, instruction: &Instruction) -> Result<Form<'_>, Fault>
-    ensures { AdmittedAs (coprocessor (suffixes_of codes.suffixes) (codes.coprocessor ∷ optional codes.second) (optional codes.third)) instruction.now result }
+    ensures admitted { AdmittedAs (Coprocessor codes) instruction.now result }
 {
     admit_codes(codes)?;
     Ok(Form::Coprocessor(codes, admit_reached(&instruction.operands)?))
 }
 
-#[inline(always)]
-fn admit_block(transfer: Transfer, instruction: &Instruction) -> Result<Form<'_>, Fault>
-    ensures { AdmittedAs (block transfer.load transfer.add transfer.pre transfer.wback transfer.user) instruction.now result }
+#[inline(never)]
+fn admit_block(user: bool, instruction: &Instruction) -> Result<Form<'_>, Fault>
+    ensures admitted { AdmittedAs (BlockKind user) instruction.now result }
 {
-    let [first, second, third, fourth] = instruction.operands;
-    let Operand::RegWBack(base, wback) = first else {
-        return Err(Fault::Shape);
-    };
-    let Operand::RegList(mask) = second else {
-        return Err(Fault::Shape);
-    };
-    if !is_nothing(third) || !is_nothing(fourth) {
-        return Err(Fault::Shape);
-    }
-    let block = Block {
-        transfer,
-        base,
-        wback,
-        mask,
-    };
-    if stacks(transfer, base, wback) {
-        Ok(Form::Stack(block))
-    } else {
-        Ok(Form::Block(block))
+    let first = instruction.operands[0];
+    let second = instruction.operands[1];
+    match (first, second) {
+        (Operand::RegWBack(base, wback), Operand::RegList(mask)) if has_two_only(instruction) => {
+            Ok(Form::Block(Block {
+                base,
+                wback,
+                mask,
+                user,
+            }))
+        }
+        _ => Err(Fault::Shape),
     }
 }
 
-#[inline(always)]
-fn admit_one(load: bool, instruction: &Instruction) -> Result<Form<'_>, Fault>
-    ensures { AdmittedAs (one_form load) instruction.now result }
-{
-    let operands = admit_reached(&instruction.operands)?;
-    // Kept: the check makes no proof of a `map_or` here, since what its closure answers, a `Form`, names a lifetime.
-    match stack_register(load, &instruction.operands) {
-        Some(reg) => Ok(Form::One { load, reg }),
-        None => Ok(Form::Plain(operands)),
-    }
-}
-
-#[inline(always)]
+#[inline(never)]
 fn admit_it(instruction: &Instruction) -> Result<Form<'_>, Fault>
-    ensures { AdmittedAs it instruction.now result }
+    ensures admitted { AdmittedAs It instruction.now result }
 {
-    let [first, second, _, _] = instruction.operands;
+    let first = instruction.operands[0];
+    let second = instruction.operands[1];
     let Operand::Imm32(condition) = first else {
         return Err(Fault::Shape);
     };
@@ -96,7 +74,7 @@ fn admit_it(instruction: &Instruction) -> Result<Form<'_>, Fault>
 #[inline(always)]
 fn admit_mode(operand: Operand) -> Result<Option<u16>, Fault>
     ensures refusal { outcome result ≡ reached_refused 1 (operand ∷ []) }
-    ensures value { IfOk result (λ m. m ≡ mode_of (shape operand)) }
+    ensures value { IfOk result (λ m. m ≡ mode_of operand) }
 {
     match operand {
         Operand::Imm12(mode) => Ok(Some(mode)),
@@ -108,51 +86,28 @@ fn admit_mode(operand: Operand) -> Result<Option<u16>, Fault>
     }
 }
 
-#[inline(always)]
+#[inline(never)]
 fn admit_cps(instruction: &Instruction) -> Result<Form<'_>, Fault>
-    ensures { AdmittedAs cps instruction.now result }
+    ensures admitted { AdmittedAs Cps instruction.now result }
 {
-    let [first, second, _, _] = instruction.operands;
-    let Operand::Imm12(flags) = first else {
+    let Operand::Imm12(flags) = instruction.operands[0] else {
         return Err(Fault::Shape);
     };
     if flags > 7 {
         return Err(Fault::Field(Place::First));
     }
-    let mode = admit_mode(second)?;
+    let mode = admit_mode(instruction.operands[1])?;
     Ok(Form::Cps { flags, mode })
 }
 
-#[inline(always)]
+#[inline(never)]
 fn admit_setend(instruction: &Instruction) -> Result<Form<'_>, Fault>
-    ensures { AdmittedAs setend instruction.now result }
+    ensures admitted { AdmittedAs Setend instruction.now result }
 {
-    let [first, _, _, _] = instruction.operands;
-    match first {
+    match instruction.operands[0] {
         Operand::Imm12(number) => Ok(Form::Setend { number }),
         _ => Err(Fault::Shape),
     }
-}
-
-#[inline(always)]
-fn shows_own(instruction: &Instruction) -> bool
-    ensures { result ≡ shows_operands instruction.now }
-{
-    match kind_by(instruction.opcode) {
-        Kind::Plain | Kind::List { .. } => true,
-        Kind::One { load } => stack_register(load, &instruction.operands).is_none(),
-        _ => false,
-    }
-}
-
-// Whether the line is the opcode's own word with the operands behind it, so that `admit_reached` is all that admits it.
-#[inline(always)]
-pub fn is_plain(instruction: &Instruction) -> bool
-    ensures value { result ≡ shows_operands instruction.now }
-    ensures refusal { OnTrue result (refused instruction.now ≡ reached_refused 0 (four instruction.now)) }
-    ensures shown { OnTrue result (parts instruction.now ≡ own_parts instruction.now) }
-{
-    shows_own(instruction)
 }
 
 // What the line of the instruction shows, or why it has none.
@@ -163,13 +118,19 @@ pub fn admit(instruction: &Instruction) -> Result<Form<'_>, Fault>
     ensures shown { IfOk result (λ f. parts_of f instruction.now ≡ parts instruction.now) }
     ensures moves { IfOk result (λ f. moved_in f ≡ moved instruction.now) }
 {
+    if let Some(form) = stack_form(instruction) {
+        return if has_two_only(instruction) {
+            Ok(Form::Stack(form))
+        } else {
+            Err(Fault::Shape)
+        };
+    }
     match kind_by(instruction.opcode) {
-        Kind::Block(transfer) => admit_block(transfer, instruction),
-        Kind::One { load } => admit_one(load, instruction),
+        Kind::Block { user } => admit_block(user, instruction),
         Kind::It => admit_it(instruction),
         Kind::Cps => admit_cps(instruction),
         Kind::Setend => admit_setend(instruction),
         Kind::Coprocessor(codes) => admit_coprocessor(codes, instruction),
-        Kind::List { .. } | Kind::Plain => admit_plain(instruction),
+        Kind::Plain => admit_plain(instruction),
     }
 }

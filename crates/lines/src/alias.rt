@@ -1,64 +1,73 @@
 // The four forms that are printed under another name.
 ghost use Rattle.std.specs.Prelude.{◌≡◌};
-ghost use Rattle.lines.specs.Codes.{on_stack, one_on_stack};
 ghost use Rattle.lines.specs.Lines.{stack_name};
+ghost use Rattle.lines.specs.Moved.{on_stack, pop as pop_of, push as push_of};
 
-use crate::operands::is_nothing;
-use armv7::{Operand, Reg};
-use kind::Transfer;
+use crate::operands::has_two_only;
+use armv7::{Instruction, Opcode, Operand, Reg};
 
-// The register of a load that is a pop, or of a store that is a push.
-// Kept: guards for base 13, offset 4 and write-back, by a rule of the project (docs/DECISIONS.md).
-#[inline(always)]
-pub fn stack_register(load: bool, operands: &[Operand; 4]) -> Option<Reg>
-    ensures register { result ≡ one_on_stack load operands.now }
-{
-    let [first, second, third, fourth] = *operands;
-    let Operand::Reg(target) = first else {
-        return None;
-    };
-    match second {
-        Operand::RegDerefPostindexOffset(base, offset, add, wback)
-            if load
-                && base == Reg::R13
-                && offset == 4
-                && add
-                && !wback
-                && is_nothing(third)
-                && is_nothing(fourth) => Some(target),
-        Operand::RegDerefPreindexOffset(base, offset, add, wback)
-            if !load
-                && base == Reg::R13
-                && offset == 4
-                && !add
-                && wback
-                && is_nothing(third)
-                && is_nothing(fourth) => Some(target),
-        _ => None,
-    }
+// What a pop or a push moves: a list of registers, by the bits 0 to 15, or one register.
+#[derive(Clone, Copy)]
+pub enum Stacked {
+    List(u16),
+    One(Reg),
 }
 
-// Whether a block transfer is a pop or a push.
+// A pop, which loads, or a push.
+#[derive(Clone, Copy)]
+pub struct StackForm {
+    pub load: bool,
+    pub moved: Stacked,
+}
+
 #[inline(always)]
-pub fn stacks(transfer: Transfer, base: Reg, wback: bool) -> bool
-    ensures value { result ≡ on_stack transfer base wback }
+fn pop(moved: Stacked) -> StackForm
+    ensures form { result ≡ pop_of moved }
 {
-    match transfer {
-        Transfer {
-            load: true,
-            add: true,
-            pre: false,
-            wback: false,
-            user: false,
+    StackForm { load: true, moved }
+}
+
+#[inline(always)]
+fn push(moved: Stacked) -> StackForm
+    ensures form { result ≡ push_of moved }
+{
+    StackForm { load: false, moved }
+}
+
+// The form under another name that an instruction is, if it is one.
+// Kept: one match on the opcode with its flags and on operand cases, with guards, by a rule of the project (docs/DECISIONS.md).
+#[inline(always)]
+pub fn stack_form(instruction: &Instruction) -> Option<StackForm>
+    ensures form { result ≡ on_stack instruction.now }
+{
+    let first = instruction.operands[0];
+    let second = instruction.operands[1];
+    match (instruction.opcode, first, second) {
+        (
+            Opcode::LDM(true, false, false, false),
+            Operand::RegWBack(base, wback),
+            Operand::RegList(mask),
+        ) if base == Reg::R13 && wback => Some(pop(Stacked::List(mask))),
+        (
+            Opcode::STM(false, true, false, false),
+            Operand::RegWBack(base, wback),
+            Operand::RegList(mask),
+        ) if base == Reg::R13 && wback => Some(push(Stacked::List(mask))),
+        (
+            Opcode::LDR,
+            Operand::Reg(target),
+            Operand::RegDerefPostindexOffset(base, offset, add, wback),
+        ) if base == Reg::R13 && offset == 4 && add && !wback && has_two_only(instruction) => {
+            Some(pop(Stacked::One(target)))
         }
-        | Transfer {
-            load: false,
-            add: false,
-            pre: true,
-            wback: false,
-            user: false,
-        } => base == Reg::R13 && wback,
-        _ => false,
+        (
+            Opcode::STR,
+            Operand::Reg(target),
+            Operand::RegDerefPreindexOffset(base, offset, add, wback),
+        ) if base == Reg::R13 && offset == 4 && !add && wback && has_two_only(instruction) => {
+            Some(push(Stacked::One(target)))
+        }
+        _ => None,
     }
 }
 

@@ -1,15 +1,14 @@
 // The numbers inside a coprocessor form's opcode.
-ghost use Rattle.std.specs.Prelude.{◌≡◌, [], ◌∷◌, ◌++◌};
-ghost use Rattle.kind.specs.Kinds.{optional};
+ghost use Rattle.std.specs.Prelude.{◌≡◌};
 ghost use Rattle.sink.specs.Outcome.{outcome};
-ghost use Rattle.lines.specs.Admission.{codes_refused};
+ghost use Rattle.lines.specs.Admission.{code_refused, codes_refused, optional_refused};
 
 use armv7::Fault;
 use kind::Codes;
 
 // A code is a number up to 15.
 fn admit_code(code: u8) -> Result<(), Fault>
-    ensures { outcome result ≡ codes_refused (code ∷ []) }
+    ensures refusal { outcome result ≡ code_refused code }
 {
     if code > 15 {
         return Err(Fault::CodeNumber);
@@ -18,14 +17,14 @@ fn admit_code(code: u8) -> Result<(), Fault>
 }
 
 fn admit_optional(code: Option<u8>) -> Result<(), Fault>
-    ensures { outcome result ≡ codes_refused (optional code) }
+    ensures refusal { outcome result ≡ optional_refused code }
 {
     code.map_or(Ok(()), admit_code)
 }
 
 // All of them, in order.
 pub(crate) fn admit_codes(codes: Codes) -> Result<(), Fault>
-    ensures { outcome result ≡ codes_refused ((codes.coprocessor ∷ optional codes.second) ++ optional codes.third) }
+    ensures refusal { outcome result ≡ codes_refused codes }
 {
     admit_code(codes.coprocessor)?;
     admit_optional(codes.second)?;

@@ -2,8 +2,9 @@
 ghost use Rattle.std.specs.Prelude.{◌≤◌, All, length};
 ghost use Rattle.lines.specs.Admission.{HasText};
 
+use crate::alias::StackForm;
 use armv7::{ConditionCode, Operand, Reg};
-use kind::{Codes, Transfer};
+use kind::Codes;
 
 // At most four operands, each of which has a text.
 #[derive(Clone, Copy)]
@@ -13,13 +14,14 @@ pub struct Reached<'a> {
     ghost clean: { All HasText operands.now },
 }
 
-// A block transfer: its base, whether that is written back, and the registers by the bits 0 to 15.
+// A block transfer: its base, whether that is written back, the registers by the bits 0 to 15, and whether they are those of user
+// mode.
 #[derive(Clone, Copy)]
 pub struct Block {
-    pub transfer: Transfer,
     pub base: Reg,
     pub wback: bool,
     pub mask: u16,
+    pub user: bool,
 }
 
 // The condition of an IT block, and the mask that says of which instructions it is that, and of which the opposite.
@@ -36,10 +38,8 @@ pub enum Form<'a> {
     Coprocessor(Codes, Reached<'a>),
     // A block transfer under its own name: base and list.
     Block(Block),
-    // One that is a pop or a push: the list alone.
-    Stack(Block),
-    // A load or a store that is a pop or a push: its register alone.
-    One { load: bool, reg: Reg },
+    // A pop or a push: its list, or its register alone.
+    Stack(StackForm),
     It(ItBlock),
     Cps { flags: u16, mode: Option<u16> },
     Setend { number: u16 },

@@ -9,9 +9,9 @@ mod letters;
 mod operands;
 mod suffix;
 
-pub use admission::{admit, is_plain};
-pub use alias::{stack_register, stack_word, stacks};
+pub use admission::admit;
+pub use alias::{StackForm, Stacked, stack_form, stack_word};
 pub use form::{Block, Form, ItBlock, Reached};
 pub use letters::letter_count;
-pub use operands::{admit_operands, admit_reached, is_nothing};
+pub use operands::is_nothing;
 pub use suffix::Suffix;

@@ -1,6 +1,5 @@
 // What stands behind the name of an instruction.
 ghost use Rattle.std.specs.Prelude.{◌≡◌};
-ghost use Rattle.kind.specs.Kinds.{suffixes_of};
 ghost use Rattle.lines.specs.Lines.{suffixed};
 ghost use Rattle.lines.specs.Forms.{suffix_in, suffix_text};
 
@@ -28,7 +27,7 @@ impl Suffix {
 
     // As much of it as a coprocessor form shows.
     pub fn shown(suffixes: Suffixes, instruction: &Instruction) -> Suffix
-        ensures text { suffix_text result ≡ suffixed (suffixes_of suffixes) instruction.now }
+        ensures text { suffix_text result ≡ suffixed suffixes instruction.now }
     {
         let bare = Suffix {
             s: false,

@@ -5,18 +5,17 @@ ghost use Rattle.sink.specs.Items.{bytes};
 ghost use Rattle.visitor.specs.Operands.{operand_items};
 ghost use Rattle.visitor.specs.Texts.{decimal, list_items, followed};
 ghost use Rattle.lines.specs.Admission.{HasText};
-ghost use Rattle.lines.specs.Codes.{mode_rows};
-ghost use Rattle.lines.specs.Lines.{code_row, code_rows, flag_row};
-ghost use Rattle.lines.specs.Forms.{block_rows as rows_of_block, rows_of};
+ghost use Rattle.lines.specs.Lines.{block_rows as rows_of_block, code_row, code_rows, flag_row, mode_rows, stack_row as row_on_stack};
+ghost use Rattle.lines.specs.Forms.{rows_of};
 
 use armv7::Operand;
 use kind::Codes;
-use lines::{Block, Form, Reached};
+use lines::{Block, Form, Reached, Stacked};
 use measurer::{decimal_size, flag_size, measure};
 
 // The measurer refuses only what has no text.
 fn operand_size(operand: Operand) -> usize
-    requires { HasText operand }
+    requires text { HasText operand }
     ensures value { result ≡ length (bytes (operand_items operand)) }
     ensures bound { result ≤ 65 }
 {
@@ -27,8 +26,11 @@ fn operand_rows(reached: Reached<'_>) -> usize
     ensures value { result ≡ length (bytes (followed (map operand_items reached.entry.operands.now))) }
     ensures bound { result ≤ 268 }
 {
-    let operands = reached.operands.iter();
-    operands.map(|operand| 2 + operand_size(*operand)).sum()
+    let mut size = 0;
+    for index in 0..reached.operands.len() {
+        size += 2 + operand_size(reached.operands[index]);
+    }
+    size
 }
 
 // A code, where there is one.
@@ -57,6 +59,17 @@ fn list_row(mask: u16) -> usize
     2 + operand_size(Operand::RegList(mask))
 }
 
+// The list of a pop or a push, or its register between braces.
+fn stack_row(moved: Stacked) -> usize
+    ensures value { result ≡ length (bytes (followed (row_on_stack moved ∷ []))) }
+    ensures bound { result ≤ 67 }
+{
+    match moved {
+        Stacked::List(mask) => list_row(mask),
+        Stacked::One(reg) => 4 + operand_size(Operand::Reg(reg)),
+    }
+}
+
 // The base and the list of a block transfer.
 fn block_rows(block: Block) -> usize
     ensures value { result ≡ length (bytes (followed (rows_of_block block))) }
@@ -64,7 +77,7 @@ fn block_rows(block: Block) -> usize
 {
     2 + operand_size(Operand::RegWBack(block.base, block.wback))
         + list_row(block.mask)
-        + flag_size(block.transfer.user)
+        + flag_size(block.user)
 }
 
 // The interrupts that a CPS switches, where there are any: a letter for each set bit of the low three.
@@ -95,8 +108,7 @@ pub(crate) fn rows_size(form: Form<'_>) -> usize
         Form::Plain(reached) => operand_rows(reached),
         Form::Coprocessor(codes, reached) => coprocessor_rows(codes, reached),
         Form::Block(block) => block_rows(block),
-        Form::Stack(block) => list_row(block.mask),
-        Form::One { reg, .. } => 4 + operand_size(Operand::Reg(reg)),
+        Form::Stack(form) => stack_row(form.moved),
         Form::It(_) | Form::Setend { .. } => 4,
         Form::Cps { flags, mode } => flags_size(flags) + mode_size(mode),
     }

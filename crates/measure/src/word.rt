@@ -30,8 +30,7 @@ pub(crate) fn word_size(form: Form<'_>, instruction: &Instruction) -> usize
     let own = instruction.opcode.name().len();
     let suffix = suffix_size(Suffix::of(instruction));
     match form {
-        Form::Stack(block) => stack_word(block.transfer.load).len() + suffix,
-        Form::One { load, .. } => stack_word(load).len() + suffix,
+        Form::Stack(form) => stack_word(form.load).len() + suffix,
         Form::It(block) => own + suffix + letter_count(block.mask),
         Form::Coprocessor(codes, _) => {
             own + suffix_size(Suffix::shown(codes.suffixes, instruction))
