@@ -1,1 +1,2 @@
+pub mod Inked
 pub mod Paintings

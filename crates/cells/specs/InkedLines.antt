@@ -1,0 +1,41 @@
+-- The ink of every line, and what a sink of cells holds once a line was printed to it. Assumes nothing.
+use Rattle.std.specs.Prelude.{◌≡◌, List, ◌++◌, take, None, Some}
+use Rattle.armv7.specs.declared.instruction.Instruction.{Instruction}
+use Rattle.armv7.specs.Faults.{Refusal}
+use Rattle.sink.specs.Items.{bytes}
+use Rattle.sink.specs.Meaning.{room}
+use Rattle.sink.specs.Printed.{Printed}
+use Rattle.lines.specs.Admission.{refused}
+use Rattle.lines.specs.Lines.{parts, behind_word, line}
+use Rattle.cells.specs.declared.cell.Cell.{Cell}
+use Rattle.cells.specs.declared.cell.Ink.TheVariants.{Plain, Opcode as OpcodeInk}
+use Rattle.cells.specs.declared.painting.CellSink.{CellSink}
+use Rattle.cells.specs.CellSinks.{cells_of, cell_meaning, cell_sink}
+use Rattle.cells.specs.Inks.{painted, text_of, inked, ink_behind}
+
+-- the cells of a line, and of its part behind the word, by the rule on inks
+abbrev pub line_cells : Instruction → List Cell
+line_cells i = inked Plain (line i)
+
+abbrev pub cells_behind_word : Instruction → List Cell
+cells_behind_word i = inked Plain (behind_word (parts i).rows)
+
+pub record InkedLine (i : Instruction) : Type 0 where
+  pub bytes : text_of (line_cells i) ≡ bytes (line i)
+  pub word : line_cells i ≡ painted OpcodeInk (parts i).word ++ cells_behind_word i
+  pub plain_again : ink_behind Plain (line i) ≡ Plain
+
+-- the line was taken whole
+pub record InkedWhole (i : Instruction) (s t : CellSink) : Type 0 where
+  pub cells : cells_of t ≡ cells_of s ++ line_cells i
+  pub plain_again : t.ink ≡ Plain
+
+-- as many of its cells were taken as there was room for
+abbrev pub InkedPart : Instruction → CellSink → CellSink → Type 0
+InkedPart i s t = cells_of t ≡ cells_of s ++ take (room (cell_meaning s)) (line_cells i)
+
+-- of every instruction that is not refused, and every sink of plain ink
+pub record LinesAreInked : Type 0 where
+  pub inks : (i : Instruction) → refused i ≡ None → InkedLine i
+  pub whole : (i : Instruction) → refused i ≡ None → (s t : CellSink) → s.ink ≡ Plain → Printed cell_sink (line i) s None t → InkedWhole i s t
+  pub part : (i : Instruction) → refused i ≡ None → (s t : CellSink) → s.ink ≡ Plain → (f : Refusal) → Printed cell_sink (line i) s (Some f) t → InkedPart i s t
