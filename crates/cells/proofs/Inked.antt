@@ -1,8 +1,7 @@
 -- Rows of items in ink: their bytes, what fits of them, and the ink behind them. Assumes nothing.
-use Rattle.std.proofs.Common.{◌≡◌, ℕ, zero, suc, ◌≤◌, List, [], ◌∷◌, ◌++◌, length, take, Option, None, sym, refl, ap, ◌∙◌, ap₂, subst, arith}
+use Rattle.std.proofs.Common.{◌≡◌, ℕ, zero, suc, ◌≤◌, List, [], ◌∷◌, ◌++◌, take, Option, None, refl, ap, ◌∙◌, ap₂, arith}
 use Rattle.std.proofs.lemmas.Bool.Decides.{nat_tests}
-use Rattle.armv7.specs.declared.instruction.Instruction.{Instruction}
-use Rattle.sink.specs.declared.sink.Edge.TheVariants.{Start, End}
+use Rattle.sink.specs.declared.sink.Edge.TheVariants.{End}
 use Rattle.sink.specs.declared.sink.Span.{Span}
 use Rattle.sink.specs.declared.sink.Span.TheVariants.{Opcode, Register}
 use Rattle.sink.specs.Items.{Item, byte, edge, text_items, bytes, fitting, within}
@@ -28,8 +27,7 @@ inked_fitting zero i [] = refl
 inked_fitting (suc n) i [] = refl
 inked_fitting zero i (byte b ∷ is) = refl
 inked_fitting (suc n) i (byte b ∷ is) = ap (λ r. cell_in i b ∷ r) (inked_fitting n i is)
-inked_fitting zero i (edge e s ∷ is) = inked_fitting zero (next_ink i e s) is
-inked_fitting (suc n) i (edge e s ∷ is) = inked_fitting (suc n) (next_ink i e s) is
+inked_fitting n i (edge e s ∷ is) = inked_fitting n (next_ink i e s) is
 
 -- a word in an opcode span, and what stands behind it
 pub inked_word : (w : List ℕ) (is : List Item) → inked Plain (within Opcode (text_items w) ++ is) ≡ painted OpcodeInk w ++ inked Plain is
@@ -52,6 +50,7 @@ settled (span_then k {inside} {rest} h g) =
     let e : ink_behind (ink_of k) (inside ++ edge End k ∷ rest) ≡ Plain = ink_behind_append (ink_of k) inside (edge End k ∷ rest) ∙ ap (λ i. ink_behind i rest) ((settled h).ended k) ∙ (settled g).plain in
     record { plain = e; ended = λ j. ap (λ i. ended_ink i j) e }
 
+-- what was not refused had room
 fits : (n k : ℕ) → None ≡ full_below n k → k ≤ n
 fits n k e = grind (arith, nat_tests)
 

@@ -1,18 +1,16 @@
 -- Cells that are painted behind a text, and turns of the ink. Assumes nothing.
-use Rattle.std.proofs.Common.{◌≡◌, ℕ, ◌-◌, ◌^◌, ◌<◌, List, [], ◌∷◌, ◌++◌, length, take, drop, sym, refl, ap, ◌∙◌, ap₂, append-nil, arith}
+use Rattle.std.proofs.Common.{◌≡◌, ℕ, ◌-◌, ◌^◌, ◌<◌, List, [], ◌∷◌, ◌++◌, length, take, sym, refl, ap, ◌∙◌, ap₂, arith}
 use mathlib.Core.List.{map-append}
 use lib.ListN.{length-map}
-use Rattle.sink.specs.declared.sink.Edge.{Edge}
-use Rattle.sink.specs.declared.sink.Span.{Span}
-use Rattle.sink.specs.Items.{edge, text_items}
+use Rattle.sink.specs.Items.{text_items}
 use Rattle.sink.specs.Lent.{lent}
-use Rattle.sink.specs.Meaning.{Meaning, room, appended, marked}
+use Rattle.sink.specs.Meaning.{Meaning, room, appended}
 use Rattle.sink.proofs.Lents.{all_lent, room_left, write_limit}
 use Rattle.cells.specs.declared.cell.Cell.{Cell}
 use Rattle.cells.specs.declared.cell.Ink.{Ink}
 use Rattle.cells.specs.declared.painting.CellSink.{CellSink}
-use Rattle.cells.specs.CellSinks.{cells_of, cell_meaning, CellKept}
-use Rattle.cells.specs.Inks.{next_ink, cell_in, painted, text_of, inked, ink_behind}
+use Rattle.cells.specs.CellSinks.{cells_of, cell_meaning}
+use Rattle.cells.specs.Inks.{cell_in, painted, text_of, inked, ink_behind}
 
 text_painted : (i : Ink) (p : List ℕ) → text_of (painted i p) ≡ p
 text_painted i [] = refl

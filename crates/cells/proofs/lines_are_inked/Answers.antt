@@ -5,7 +5,9 @@ use Rattle.lines.specs.Lines.{parts, behind_word, line}
 use Rattle.blocks.proofs.Bounds.{lines_bounded}
 use Rattle.cells.specs.declared.cell.Ink.TheVariants.{Plain}
 use Rattle.cells.specs.InkedLines.{InkedLine}
+use Rattle.cells.proofs.Behind.{no_opcode_line}
 use Rattle.cells.proofs.Inked.{inked_bytes, inked_word, settled, printed_part, printed_whole}
+use Rattle.cells.proofs.Registers.{other_inks}
 use Rattle.cells.proofs.lines_are_inked.Goals as goal
 
 inked_line : (i : Instruction) → refused i ≡ None → InkedLine i
@@ -13,6 +15,7 @@ unfolding line
 inked_line i h = record {
   bytes = inked_bytes Plain (line i);
   word = inked_word (parts i).word (behind_word (parts i).rows);
+  no_opcode_behind = other_inks Plain (behind_word (parts i).rows) (λ e. cc) (no_opcode_line i);
   plain_again = (settled (lines_bounded i h).nested).plain;
 }
 
