@@ -1,1 +1,4 @@
+pub mod Behind
+pub mod Inked
 pub mod Paintings
+pub mod Registers

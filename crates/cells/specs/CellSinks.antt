@@ -1,10 +1,10 @@
 -- A sink on lent cells: they hold its text and the ink of each byte, and it has no marks. Assumes nothing.
 use Rattle.std.specs.Prelude.{◌≡◌, List, [], ◌∷◌, ◌++◌, length, take, refl}
-use Rattle.std.proofs.Common.{append-nil, append_assoc, sym, ap, ◌∙◌, arith}
+use Rattle.std.proofs.Common.{append-nil, append_assoc, sym, ap, ap₂, ◌∙◌, arith}
 use Rattle.std.proofs.lemmas.List.{length-map}
 use Rattle.sink.specs.Items.{Item, byte, edge}
 use Rattle.sink.specs.Lent.{lent, Filled, lent_within, lent_bits, filled_none, filled_twice}
-use Rattle.sink.specs.Meaning.{Meaning, Laws}
+use Rattle.sink.specs.Meaning.{Meaning, Laws, SinkOf}
 use Rattle.cells.specs.declared.cell.Cell.{Cell}
 use Rattle.cells.specs.declared.cell.Ink.{Ink}
 use Rattle.cells.specs.declared.painting.CellSink.{CellSink}
@@ -22,14 +22,13 @@ cell_meaning s = record {
   mark_limit = 0;
 }
 
--- The memory is the same, and past the text it stays as it was. The cells of the text stay, and those that came behind them
--- have the inks of some row of bytes and edges, from the ink before it.
-pub record CellKept (s t : CellSink) : Type 0 where
+-- Of a row of items that was handed over: the memory is the same, and past the text it stays as it was. The cells of the row stand
+-- behind those of the text, with the inks that the row gives them, from the ink before it.
+pub record CellKept (is : List Item) (s t : CellSink) : Type 0 where
   pub memory : t.cells.ghost_name ≡ s.cells.ghost_name
   pub filled : Filled s.cells.now s.len t.cells.now t.len
-  pub row : List Item
-  pub inks : cells_of t ≡ cells_of s ++ inked s.ink row
-  pub ink : t.ink ≡ ink_behind s.ink row
+  pub inks : cells_of t ≡ cells_of s ++ inked s.ink is
+  pub ink : t.ink ≡ ink_behind s.ink is
 
 pub inked_append : (i : Ink) (a b : List Item) → inked i (a ++ b) ≡ inked i a ++ inked (ink_behind i a) b
 inked_append i [] b = refl
@@ -41,14 +40,12 @@ ink_behind_append i [] b = refl
 ink_behind_append i (byte x ∷ a) b = ink_behind_append i a b
 ink_behind_append i (edge e s ∷ a) b = ink_behind_append (next_ink i e s) a b
 
-kept_twice : (s t u : CellSink) → CellKept s t → CellKept t u → CellKept s u
-kept_twice s t u f g = record {
+kept_both : (a b : List Item) (s t u : CellSink) → CellKept a s t → CellKept b t u → CellKept (a ++ b) s u
+kept_both a b s t u f g = record {
   memory = g.memory ∙ f.memory;
   filled = filled_twice f.filled g.filled;
-  row = f.row ++ g.row;
-  inks = g.inks ∙ ap (λ l. l ++ inked t.ink g.row) f.inks ∙ append_assoc (cells_of s) (inked s.ink f.row) _
-      ∙ ap (λ i. cells_of s ++ (inked s.ink f.row ++ inked i g.row)) f.ink ∙ ap (λ l. cells_of s ++ l) (sym (inked_append s.ink f.row g.row));
-  ink = g.ink ∙ ap (λ i. ink_behind i g.row) f.ink ∙ sym (ink_behind_append s.ink f.row g.row);
+  inks = g.inks ∙ ap₂ (λ l i. l ++ inked i b) f.inks f.ink ∙ append_assoc (cells_of s) (inked s.ink a) _ ∙ ap (λ l. cells_of s ++ l) (sym (inked_append s.ink a b));
+  ink = g.ink ∙ ap (λ i. ink_behind i b) f.ink ∙ sym (ink_behind_append s.ink a b);
 }
 
 pub cell_laws : Laws cell_meaning CellKept
@@ -59,6 +56,10 @@ cell_laws = record {
     marks_within = omega arith;
     mark_limit_bits = omega arith;
   };
-  stays = λ s. record { memory = refl; filled = filled_none _ _; row = []; inks = sym (append-nil (cells_of s)); ink = refl };
-  lasts = kept_twice;
+  stays = λ s. record { memory = refl; filled = filled_none _ _; inks = sym (append-nil (cells_of s)); ink = refl };
+  adds_up = kept_both;
 }
+
+-- it keeps the inks of the row
+abbrev pub cell_sink : SinkOf CellSink
+cell_sink = record { meaning = cell_meaning; kept = CellKept; laws = cell_laws }

@@ -1,3 +1,4 @@
 pub mod CellSinks
+pub mod InkedLines
 pub mod Inks
 pub mod Worked

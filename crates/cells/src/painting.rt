@@ -1,9 +1,7 @@
 // A sink that holds text in lent cells, each byte with the ink of the spans around it, and no marks.
 ghost use Rattle.std.specs.Prelude.{◌≡◌, ◌-◌, ◌≤◌, ◌++◌, length, take};
-ghost use Rattle.sink.specs.declared.sink.Edge.TheVariants.{Start, End};
-ghost use Rattle.sink.specs.declared.sink.Span.TheVariants.{Opcode, Register};
 ghost use Rattle.sink.specs.Lent.{Filled};
-ghost use Rattle.sink.specs.Meaning.{with_room, room as room_of, appended, marked};
+ghost use Rattle.sink.specs.Meaning.{with_room, Marks};
 ghost use Rattle.sink.specs.Outcome.{outcome, full_below};
 ghost use Rattle.cells.specs.Inks.{ink_number, next_ink, painted};
 
@@ -38,7 +36,7 @@ fn paint(cells: &mut [Cell], used: &mut usize, ink: Ink, piece: &[u8]) -> Result
 }
 
 impl<'a> CellSink<'a> {
-    ghost use Rattle.cells.specs.CellSinks.{cells_of, cell_meaning, CellKept};
+    ghost use Rattle.cells.specs.CellSinks.{cells_of, cell_meaning, cell_sink};
 
     // A sink with no text yet, as much room as there are cells, and plain ink.
     pub fn new(cells: &'a mut [Cell]) -> CellSink<'a>
@@ -87,68 +85,34 @@ impl<'a> CellSink<'a> {
 
     // What an edge of a span does: the ink turns, and the text stays.
     fn pass(&mut self, edge: Edge, span: Span)
-        ensures after { cell_meaning self.new ≡ marked edge span (cell_meaning self.old) }
-        ensures rest { CellKept self.old self.new }
-        ensures inks { cells_of self.new ≡ cells_of self.old }
-        ensures ink { self.new.ink ≡ next_ink self.old.ink edge span }
+        ensures marked { Marks cell_sink edge span self.old self.new }
     {
         self.turn(edge, span);
     }
 }
 
 impl DisplaySink for CellSink<'_> {
-    ghost use Rattle.cells.specs.CellSinks.{cells_of, cell_meaning, CellKept, cell_laws};
+    ghost use Rattle.cells.specs.CellSinks.{cell_sink};
 
-    ghost meaning = { cell_meaning };
+    ghost sink = { cell_sink };
 
-    ghost kept = { CellKept };
-
-    ghost laws = { cell_laws };
-
-    fn write(&mut self, piece: &[u8]) -> Result<(), Fault>
-        ensures after { cell_meaning self.new ≡ appended piece.now (cell_meaning self.old) }
-        ensures answer { outcome result ≡ full_below (room_of (cell_meaning self.old)) (length piece.now) }
-        ensures rest { CellKept self.old self.new }
-        ensures inks { cells_of self.new ≡ cells_of self.old ++ painted self.old.ink (take (room_of (cell_meaning self.old)) piece.now) }
-        ensures ink { self.new.ink ≡ self.old.ink }
-    {
+    fn write(&mut self, piece: &[u8]) -> Result<(), Fault> {
         paint(self.cells, &mut self.len, self.ink, piece)
     }
 
-    // Kept: a call with clauses of its own names its trait's again, beside inks and ink, by which its users go (docs/CELLS.md).
-    fn span_start_opcode(&mut self)
-        ensures after { cell_meaning self.new ≡ marked Start Opcode (cell_meaning self.old) }
-        ensures rest { CellKept self.old self.new }
-        ensures inks { cells_of self.new ≡ cells_of self.old }
-        ensures ink { self.new.ink ≡ next_ink self.old.ink Start Opcode }
-    {
+    fn span_start_opcode(&mut self) {
         self.pass(Edge::Start, Span::Opcode);
     }
 
-    fn span_end_opcode(&mut self)
-        ensures after { cell_meaning self.new ≡ marked End Opcode (cell_meaning self.old) }
-        ensures rest { CellKept self.old self.new }
-        ensures inks { cells_of self.new ≡ cells_of self.old }
-        ensures ink { self.new.ink ≡ next_ink self.old.ink End Opcode }
-    {
+    fn span_end_opcode(&mut self) {
         self.pass(Edge::End, Span::Opcode);
     }
 
-    fn span_start_register(&mut self)
-        ensures after { cell_meaning self.new ≡ marked Start Register (cell_meaning self.old) }
-        ensures rest { CellKept self.old self.new }
-        ensures inks { cells_of self.new ≡ cells_of self.old }
-        ensures ink { self.new.ink ≡ next_ink self.old.ink Start Register }
-    {
+    fn span_start_register(&mut self) {
         self.pass(Edge::Start, Span::Register);
     }
 
-    fn span_end_register(&mut self)
-        ensures after { cell_meaning self.new ≡ marked End Register (cell_meaning self.old) }
-        ensures rest { CellKept self.old self.new }
-        ensures inks { cells_of self.new ≡ cells_of self.old }
-        ensures ink { self.new.ink ≡ next_ink self.old.ink End Register }
-    {
+    fn span_end_register(&mut self) {
         self.pass(Edge::End, Span::Register);
     }
 }

@@ -9,4 +9,4 @@ use Rattle.cells.proofs.painting.CellSinkRoomSink.room.Goals as goal
 pub returns : goal.returns
 returns c =
     let s = c.args.self.now in
-    record { value = room_left s.cells.now s.len (omega arith) s.within ∙ ap (λ n. length (lent s.cells.now) - n) (sym (length-map (cells_of s) (λ (x : Cell). x.byte))) }
+    record { room = room_left s.cells.now s.len (omega arith) s.within ∙ ap (λ n. length (lent s.cells.now) - n) (sym (length-map (cells_of s) (λ (x : Cell). x.byte))) }
