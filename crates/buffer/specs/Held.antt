@@ -4,6 +4,11 @@ use Rattle.armv7.specs.Faults.{Refusal}
 use Rattle.sink.specs.Items.{Item, bytes}
 use Rattle.buffer.specs.declared.InstructionTextBuffer.{InstructionTextBuffer}
 
+-- all of its bytes
+abbrev pub memory_of : InstructionTextBuffer → List ℕ
+memory_of b = b.content
+
+-- those that are its text
 abbrev pub text_of : InstructionTextBuffer → List ℕ
 text_of b = take b.len b.content
 

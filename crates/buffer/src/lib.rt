@@ -1,13 +1,13 @@
 // A buffer for the text of one instruction.
 #![tactic(auto)]
 
-ghost use Rattle.std.specs.Prelude.{◌≡◌, ◌≤◌, []};
+ghost use Rattle.std.specs.Prelude.{◌≡◌, ◌≤◌, [], ◌++◌, length, drop, replicate};
 ghost use Rattle.sink.specs.Outcome.{outcome};
 ghost use Rattle.lines.specs.Admission.{refused};
 ghost use Rattle.lines.specs.Lines.{line};
 
 use armv7::{Fault, Instruction};
-use composer::print_text;
+use display::visit_inst;
 use sink::TextSink;
 
 const MAX_INSTRUCTION_LEN: usize = 512;
@@ -22,11 +22,12 @@ pub struct InstructionTextBuffer {
 }
 
 impl InstructionTextBuffer {
-    ghost use Rattle.buffer.specs.Held.{text_of, formatted};
+    ghost use Rattle.buffer.specs.Held.{memory_of, text_of, formatted};
 
-    // A buffer with no text yet.
+    // A buffer with no text yet, and zero in all of its memory.
     pub fn new() -> InstructionTextBuffer
-        ensures empty { text_of result ≡ [] }
+        ensures no_text { text_of result ≡ [] }
+        ensures zeroed { memory_of result ≡ replicate 512 0 }
     {
         InstructionTextBuffer {
             content: [0; MAX_INSTRUCTION_LEN],
@@ -34,13 +35,15 @@ impl InstructionTextBuffer {
         }
     }
 
-    // Takes the line of the instruction in place of the text, or only empties itself where the instruction is refused.
+    // Takes the line of the instruction in place of the text, or no text where the instruction is refused. Behind the text the memory
+    // stays as it was.
     pub fn format_inst(&mut self, instruction: &Instruction) -> Result<(), Fault>
-        ensures answer { outcome result ≡ refused instruction.now }
+        ensures refusal { outcome result ≡ refused instruction.now }
         ensures text { text_of self.new ≡ formatted (refused instruction.now) (line instruction.now) }
+        ensures memory { memory_of self.new ≡ text_of self.new ++ drop (length (text_of self.new)) (memory_of self.old) }
     {
         let mut out = TextSink::new(&mut self.content);
-        let answer = print_text(instruction, &mut out);
+        let answer = visit_inst(instruction, &mut out);
         let size = out.end();
         self.len = size;
         answer

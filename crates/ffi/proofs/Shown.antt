@@ -11,14 +11,15 @@ use Rattle.sink.proofs.Lents.{all_lent}
 use Rattle.visitor.specs.Visits.{PrintedUnless}
 use Rattle.ffi.specs.Lines.{items_unless, refusal_unless, over}
 
+-- a sink that was empty has those of the items that go into n bytes, and none where there is a refusal
 pub record Shown {S : Type 0} (sink : SinkOf S) (f : Option Refusal) (n m : ℕ) (is : List Item) (before : S) (answer : Option Refusal) (after : S) : Type 0 where
   pub told : answer ≡ refusal_unless f n is
-  pub text : (meaning after).text ≡ bytes (items_unless f n is)
-  pub marks : (meaning after).marks ≡ take m (marks_from 0 (items_unless f n is))
-  pub rest : kept before after
+  pub text : (sink.meaning after).text ≡ bytes (items_unless f n is)
+  pub marks : (sink.meaning after).marks ≡ take m (marks_from 0 (items_unless f n is))
+  pub rest : sink.kept (items_unless f n is) before after
 
 module _ {S : Type 0} (sink : SinkOf S) (is : List Item) (n m : ℕ) (s t : S) (o : Option Refusal) where
-  pub shows : (f : Option Refusal) → meaning s ≡ with_room n m → PrintedUnless sink f is s o t → Shown sink f n m is s o t
+  pub shows : (f : Option Refusal) → sink.meaning s ≡ with_room n m → PrintedUnless sink f is s o t → Shown sink f n m is s o t
   shows None empty p =
       let all : n ≡ n - 0 = omega arith in
       record {
@@ -31,13 +32,13 @@ module _ {S : Type 0} (sink : SinkOf S) (is : List Item) (n m : ℕ) (s t : S) (
         marks = ap (λ k. k.marks) p.held
             ∙ ap (λ k. take k.mark_limit (k.marks ++ marks_from (length k.text) (fitting (room k) is))) empty
             ∙ ap (λ k. take m (marks_from 0 (fitting k is))) (sym all);
-        rest = p.rest;
+        rest = subst (λ us. sink.kept us s t) (ap (λ k. fitting (room k) is) empty ∙ ap (λ k. fitting k is) (sym all)) p.rest;
       }
   shows (Some why) empty p = record {
     told = p.told;
-    text = ap (λ u. (meaning u).text) p.still ∙ ap (λ k. k.text) empty;
-    marks = ap (λ u. (meaning u).marks) p.still ∙ ap (λ k. k.marks) empty ∙ sym (take_all m [] (omega arith));
-    rest = subst (kept s) (sym p.still) (sink.stays s);
+    text = ap (λ u. (sink.meaning u).text) p.still ∙ ap (λ k. k.text) empty;
+    marks = ap (λ u. (sink.meaning u).marks) p.still ∙ ap (λ k. k.marks) empty ∙ sym (take_all m [] (omega arith));
+    rest = subst (sink.kept [] s) (sym p.still) (sink.laws.stays s);
   }
 
 -- memory that was filled holds what is in use of it, and past that what it held

@@ -79,7 +79,7 @@ fn print_text(instruction: &Instruction, out: &mut [u8]) -> Answer
     ensures memory { HoldsText (Some instruction.now) out.old out.new }
 {
     let mut sink = TextSink::new(out);
-    let answer = composer::print_text(instruction, &mut sink);
+    let answer = visit_inst(instruction, &mut sink);
     let length = sink.end();
     answered(answer, length, 0)
 }

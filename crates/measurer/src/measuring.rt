@@ -1,5 +1,5 @@
 // A visitor that tells how many bytes the text of an operand has, and writes nothing.
-ghost use Rattle.measurer.specs.Measures.{Measured};
+ghost use Rattle.measurer.specs.Measures.{Measured, Measures};
 
 use crate::size::{
     decimal_size, flag_size, list_size, offset_size, prefixed_size, reg_size, shift_size,
@@ -15,7 +15,7 @@ impl OperandVisitor for Measurer {
 
     type Error = Fault;
 
-    ghost answers = { λ op _ r _. Measured op r };
+    ghost answers = { Measures };
 
     fn visit_reg(&mut self, reg: Reg) -> Result<usize, Fault> {
         Ok(reg_size(reg))

@@ -1,6 +1,6 @@
 use Rattle.std.proofs.Common.{◌≡◌, length, sym, ap, ◌∙◌, subst, take_all}
 use Rattle.sink.specs.Items.{marks_from}
-use Rattle.sink.specs.MarkSinks.{mark_meaning, MarkKept, mark_laws}
+use Rattle.sink.specs.MarkSinks.{mark_sink}
 use Rattle.sink.specs.Outcome.{outcome}
 use Rattle.lines.specs.Admission.{refused}
 use Rattle.lines.specs.Lines.{line}
@@ -16,7 +16,7 @@ returns c =
     let i = c.args.instruction.now in
     let empty = c.new-sink.ensures.empty in
     let same = c.new-sink.ensures.memory.0 in
-    let told = shows mark_meaning MarkKept mark_laws (line i) _ 130 c.new-sink.result c.visit_inst-answer.new.out (outcome c.visit_inst-answer.result) (refused i) empty c.visit_inst-answer.ensures.printed_or_refused in
+    let told = shows mark_sink (line i) _ 130 c.new-sink.result c.visit_inst-answer.new.out (outcome c.visit_inst-answer.result) (refused i) empty c.visit_inst-answer.ensures.printed_or_refused in
     let items = items_unless (refused i) (length c.args.out.now) (line i) in
     let held : c.marks.result.now ≡ marks_from 0 items = c.marks.ensures.value
     ∙ told.marks

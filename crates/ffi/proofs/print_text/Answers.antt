@@ -1,6 +1,6 @@
 use Rattle.std.proofs.Common.{length, sym, ap, ◌∙◌, subst}
 use Rattle.sink.specs.Outcome.{outcome}
-use Rattle.sink.specs.TextSinks.{text_meaning, TextKept, text_laws}
+use Rattle.sink.specs.TextSinks.{text_sink}
 use Rattle.lines.specs.Admission.{refused}
 use Rattle.lines.specs.Lines.{line}
 use Rattle.ffi.specs.Lines.{numbered, over, TellsRefusal}
@@ -12,7 +12,7 @@ returns c =
     let i = c.args.instruction.now in
     let empty = c.new-sink.ensures.empty in
     let same = c.new-sink.ensures.memory.0 in
-    let told = shows text_meaning TextKept text_laws (line i) _ _ c.new-sink.result c.print_text-answer.new.out (outcome c.print_text-answer.result) (refused i) empty c.print_text-answer.ensures.printed_or_refused in
+    let told = shows text_sink (line i) _ _ c.new-sink.result c.visit_inst-answer.new.out (outcome c.visit_inst-answer.result) (refused i) empty c.visit_inst-answer.ensures.printed_or_refused in
     record {
       text = (
         c.answered.ensures.size ∙ c.end-length.ensures.value ∙ ap length told.text,

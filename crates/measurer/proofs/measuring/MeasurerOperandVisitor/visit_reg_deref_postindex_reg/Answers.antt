@@ -3,4 +3,4 @@ use Rattle.measurer.proofs.Sizes.{postindex_reg_size}
 use Rattle.measurer.proofs.measuring.MeasurerOperandVisitor.visit_reg_deref_postindex_reg.Goals as goal
 
 pub returns : goal.returns
-returns c = record { answered = record { told = refl; size = omega arith ∙ sym (postindex_reg_size c.args.base c.args.add c.args.wback c.args.offset) } }
+returns c = record { answered = record { measured = record { told = refl; size = omega arith ∙ sym (postindex_reg_size c.args.base c.args.add c.args.wback c.args.offset) }; stays = refl } }
