@@ -2,19 +2,20 @@
 use crate::difference::Difference;
 use crate::family::exchange_of;
 use crate::line::Draft;
-use armv7::{ConditionCode, Instruction, Operand, RegShift, RegShiftStyle, ShiftStyle};
-use kind::{Kind, Suffixes, Transfer, kind_by};
-use lines::{is_nothing, letter_count, stacks};
+use armv7::{ConditionCode, Instruction, Opcode, Operand, RegShift, RegShiftStyle, ShiftStyle};
+use kind::{Kind, Suffixes, kind_by};
+use lines::{is_nothing, letter_count, stack_form};
 use std::alloc::AllocError;
 use wording::Characters;
 
-// Whether the original prints a pop or a push: it does not ask for the user flag.
-fn is_stacked(block: Transfer, first: Operand) -> bool {
-    let asked = Transfer {
-        user: false,
-        ..block
+// The same block transfer without the user flag, which the original does not ask for where it prints a pop or a push.
+fn without_user_flag(asked: &Instruction) -> Instruction {
+    let opcode = match asked.opcode {
+        Opcode::LDM(add, pre, wback, _) => Opcode::LDM(add, pre, wback, false),
+        Opcode::STM(add, pre, wback, _) => Opcode::STM(add, pre, wback, false),
+        other => other,
     };
-    matches!(first, Operand::RegWBack(base, wback) if stacks(asked, base, wback))
+    Instruction { opcode, ..*asked }
 }
 
 // How a shift by the amount 0 is shown here and there.
@@ -63,17 +64,20 @@ impl Draft {
         self.put(end.saturating_sub(1), b"^", b"")
     }
 
-    fn block_as_written(&mut self, block: Transfer, first: Operand) -> Result<(), AllocError> {
-        if block.user {
+    fn block_as_written(&mut self, asked: &Instruction) -> Result<(), AllocError> {
+        let (Opcode::LDM(add, pre, _, user) | Opcode::STM(add, pre, _, user)) = asked.opcode else {
+            return Ok(());
+        };
+        if user {
             let shown = self.without_user()?;
-            if is_stacked(block, first) {
-                return self.stack_with_user(block.load);
+            if let Some(form) = stack_form(&without_user_flag(asked)) {
+                return self.stack_with_user(form.load);
             }
             if shown {
                 self.seen.add(Difference::User);
             }
         }
-        if block.add && block.pre {
+        if add && pre {
             self.rewrite(3, b"ib", b"ia", Difference::AddAndPre)?;
         }
         Ok(())
@@ -164,17 +168,13 @@ impl Draft {
     pub(crate) fn as_written(&mut self, asked: &Instruction) -> Result<(), AllocError> {
         self.shifts_as_written(asked.operands)?;
         self.far_branches(asked.operands)?;
-        let kind = kind_by(asked.opcode);
-        match kind {
+        match kind_by(asked.opcode) {
             Kind::Coprocessor(codes) => self.codes_as_written(codes)?,
             Kind::Cps => self.cps_as_written(asked.operands)?,
             _ => {}
         }
         self.suffix_as_written(asked)?;
-        let [first, _, _, _] = asked.operands;
-        if let Kind::Block(block) = kind {
-            self.block_as_written(block, first)?;
-        }
+        self.block_as_written(asked)?;
         if let Some(exchange) = exchange_of(asked.opcode) {
             self.exchange_as_written(exchange)?;
         }

@@ -44,7 +44,7 @@ fn print(heap: Global, instruction: &Instruction) -> Result<Result<Line, Fault>,
 fn stop(fault: Fault, instruction: &Instruction) -> Option<Difference> {
     let operand = |place: Place| instruction.operands[usize::from(place.index())];
     match (fault, kind_by(instruction.opcode)) {
-        (Fault::Shape, Kind::Block(_)) => Some(Difference::BlockShape),
+        (Fault::Shape, Kind::Block { .. }) => Some(Difference::BlockShape),
         (Fault::Shape, Kind::It) => Some(Difference::ItShape),
         (Fault::Shape, Kind::Cps | Kind::Setend) => Some(Difference::ModeShape),
         (Fault::Field(Place::First), Kind::It) => Some(Difference::ItCondition),

@@ -94,7 +94,7 @@ pub(crate) fn repaired(asked: &Instruction, seen: &mut Seen) -> Instruction {
     match kind_by(asked.opcode) {
         Kind::It => taken.operands = it_operands(asked.operands, seen),
         Kind::Cps => taken.operands = cps_operands(asked.operands, seen),
-        Kind::Block(_) | Kind::Setend => {}
+        Kind::Block { .. } | Kind::Setend => {}
         Kind::Coprocessor(codes) => {
             if has_large_code(codes) {
                 seen.add(Difference::Code);
