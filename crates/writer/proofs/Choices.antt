@@ -1,5 +1,5 @@
 -- One of two texts by a flag, and a shift by an amount. Assumes nothing.
-use Rattle.std.proofs.Common.{◌≡◌, ℕ, ◌⊎◌, Bool, true, false, cond, List, [], ◌++◌, codes, sym, refl, ap, ◌∙◌, ap₂, ⊎_elim, ne_eqb}
+use Rattle.std.proofs.Common.{◌≡◌, ℕ, ◌⊎◌, Bool, true, false, cond, [], ◌++◌, codes, sym, refl, ap, ◌∙◌, ap₂, ⊎_elim, ne_eqb}
 use Rattle.armv7.specs.declared.shift.ShiftStyle.{ShiftStyle}
 use Rattle.armv7.specs.declared.shift.ShiftStyle.TheVariants.{LSL, LSR, ASR, ROR}
 use Rattle.visitor.specs.Operands.{bang, minus}

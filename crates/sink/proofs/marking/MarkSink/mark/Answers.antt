@@ -1,6 +1,6 @@
 use Rattle.std.proofs.Common.{ℕ, cond, ltb, List, [], ◌∷◌, ◌++◌, length, refl, ap, ◌∙◌, ap₂, arith}
 use Rattle.sink.specs.declared.sink.Mark.{Mark}
-use Rattle.sink.specs.Lent.{Filled, lent_within, filled_none}
+use Rattle.sink.specs.Lent.{lent_within, filled_none}
 use Rattle.sink.specs.Meaning.{Meaning}
 use Rattle.sink.specs.MarkSinks.{mark_meaning}
 use Rattle.sink.proofs.Lents.{write_limit, write_text, one_more, front_length}
