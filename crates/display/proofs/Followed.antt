@@ -1,6 +1,7 @@
 -- Operands that are written one after the other, each behind a comma. Assumes nothing.
-use Rattle.std.proofs.Common.{◌≡◌, ℕ, ◌+◌, ◌-◌, ◌<◌, ◌≤◌, List, [], ◌∷◌, ◌++◌, All, map, length, get_or, take, drop, IsErrAnd, Some, None, codes, Option, Result, sym, refl, ap, ◌∙◌, subst, append_assoc, append-nil, add-one, arith, drop-cons}
+use Rattle.std.proofs.Common.{◌≡◌, ℕ, ◌+◌, ◌-◌, ◌<◌, ◌≤◌, false, eqb, List, [], ◌∷◌, ◌++◌, All, map, length, get_or, take, drop, IsErrAnd, Some, None, codes, Option, Result, sym, refl, ap, ◌∙◌, subst, append_assoc, append-nil, add-one, arith, drop-cons}
 use mathlib.Core.List.{map-append}
+use Rattle.std.proofs.lemmas.Bool.{true≢false}
 use Rattle.std.proofs.lemmas.List.{take_more, take_all, take-append-drop}
 use Rattle.armv7.specs.declared.fault.Fault.{Fault}
 use Rattle.armv7.specs.declared.operand.Operand.{Operand}
@@ -34,6 +35,11 @@ Sofar sink os i s t = Printed sink (followed (map operand_items (take i os))) s 
 -- the operand at a place, as the code reads it
 abbrev pub at : List Operand → ℕ → Operand
 at os i = get_or os i (One R0)
+
+-- a row that is not empty
+pub some_there : (os : List Operand) → false ≡ eqb (length os) 0 → 1 ≤ length os
+some_there [] e = absurd (true≢false (sym e))
+some_there (o ∷ os) e = omega arith
 
 -- the first of a row, and the others
 pub first_split : (os : List Operand) → 1 ≤ length os → at os 0 ∷ take (length os - 1) (drop 1 os) ≡ os

@@ -2,8 +2,7 @@
 use Rattle.std.proofs.Common.{◌≡◌, ℕ, Bool, true, false, cond, List, [], ◌∷◌, ◌++◌, Some, None, codes, Option, sym, refl, ap, ◌∙◌, append-nil}
 use Rattle.sink.specs.Items.{Item, text_items}
 use Rattle.visitor.specs.Texts.{prefixed}
-use Rattle.lines.specs.Codes.{mode_rows}
-use Rattle.lines.specs.Lines.{behind_word}
+use Rattle.lines.specs.Lines.{mode_rows, behind_word}
 
 -- the mode, by whether no flags stand before it
 abbrev pub mode_items : Bool → Option ℕ → List Item

@@ -9,7 +9,7 @@ pub mod rows;
 mod system;
 pub mod word;
 
-pub use inst::visit_inst;
+pub use inst::{visit_inst, write_line};
 
 // The worked lines hold of the definitions.
 pub fn worked_lines_hold()

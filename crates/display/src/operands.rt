@@ -14,11 +14,11 @@ use writer::write_operand;
 // The operands, each behind a comma.
 #[inline(always)]
 pub(crate) fn write_followed<T: DisplaySink>(reached: Reached<'_>, out: &mut T) -> Result<(), Fault>
-    ensures { Prints T.sink (followed (map operand_items reached.entry.operands.now)) out.old result out.new }
+    ensures printed { Prints T.sink (followed (map operand_items reached.entry.operands.now)) out.old result out.new }
 {
-    for operand in reached.operands {
+    for index in 0..reached.operands.len() {
         write_text(out, b", ")?;
-        write_operand(out, operand)?;
+        write_operand(out, &reached.operands[index])?;
     }
     Ok(())
 }
@@ -26,12 +26,14 @@ pub(crate) fn write_followed<T: DisplaySink>(reached: Reached<'_>, out: &mut T) 
 // The operands, with commas between them.
 #[inline(always)]
 pub(crate) fn write_operands<T: DisplaySink>(reached: Reached<'_>, out: &mut T) -> Result<(), Fault>
-    ensures { Prints T.sink (behind_word (map operand_items reached.entry.operands.now)) out.old result out.new }
+    ensures printed { Prints T.sink (behind_word (map operand_items reached.entry.operands.now)) out.old result out.new }
 {
-    let [first, operands @ ..] = reached.operands else {
+    let operands = reached.operands;
+    if operands.is_empty() {
         return Ok(());
-    };
+    }
     write_text(out, b" ")?;
-    write_operand(out, first)?;
+    write_operand(out, &operands[0])?;
+    let operands = &operands[1..];
     write_followed(Reached { operands }, out)
 }

@@ -4,8 +4,7 @@ ghost use Rattle.armv7.specs.Conditions.{condition_name};
 ghost use Rattle.sink.specs.Items.{text_items};
 ghost use Rattle.sink.specs.Printed.{Prints};
 ghost use Rattle.visitor.specs.Texts.{prefixed};
-ghost use Rattle.lines.specs.Codes.{mode_rows};
-ghost use Rattle.lines.specs.Lines.{behind_word, cps_letters, flag_row, setend_text};
+ghost use Rattle.lines.specs.Lines.{behind_word, cps_letters, flag_row, mode_rows, setend_text};
 
 use armv7::{ConditionCode, Fault};
 use sink::DisplaySink;
@@ -16,7 +15,7 @@ pub(crate) fn write_it_condition<T: DisplaySink>(
     condition: ConditionCode,
     out: &mut T,
 ) -> Result<(), Fault>
-    ensures { Prints T.sink (behind_word (text_items (condition_name condition) ∷ [])) out.old result out.new }
+    ensures printed { Prints T.sink (behind_word (text_items (condition_name condition) ∷ [])) out.old result out.new }
 {
     write_text(out, b" ")?;
     write_text(out, condition.name())
@@ -24,13 +23,13 @@ pub(crate) fn write_it_condition<T: DisplaySink>(
 
 // The state that a SETEND sets.
 pub(crate) fn write_setend<T: DisplaySink>(number: u16, out: &mut T) -> Result<(), Fault>
-    ensures { Prints T.sink (behind_word (text_items (setend_text number) ∷ [])) out.old result out.new }
+    ensures printed { Prints T.sink (behind_word (text_items (setend_text number) ∷ [])) out.old result out.new }
 {
     write_either(out, number == 0, b" le", b" be")
 }
 
 fn write_cps_letters<T: DisplaySink>(flags: u16, out: &mut T) -> Result<(), Fault>
-    ensures { Prints T.sink (text_items (cps_letters flags)) out.old result out.new }
+    ensures printed { Prints T.sink (text_items (cps_letters flags)) out.old result out.new }
 {
     write_flagged(out, flags / 4 % 2 == 1, b"a")?;
     write_flagged(out, flags / 2 % 2 == 1, b"i")?;
@@ -39,7 +38,7 @@ fn write_cps_letters<T: DisplaySink>(flags: u16, out: &mut T) -> Result<(), Faul
 
 // The interrupts that a CPS switches.
 fn write_cps_flags<T: DisplaySink>(flags: u16, out: &mut T) -> Result<(), Fault>
-    ensures { Prints T.sink (if nat_eq flags 0 then [] else text_items (codes " ") ++ text_items (cps_letters flags)) out.old result out.new }
+    ensures printed { Prints T.sink (if nat_eq flags 0 then [] else text_items (codes " ") ++ text_items (cps_letters flags)) out.old result out.new }
 {
     if flags == 0 {
         return Ok(());
@@ -49,7 +48,7 @@ fn write_cps_flags<T: DisplaySink>(flags: u16, out: &mut T) -> Result<(), Fault>
 }
 
 fn write_cps_mode<T: DisplaySink>(flags: u16, mode: u16, out: &mut T) -> Result<(), Fault>
-    ensures { Prints T.sink (text_items ((if nat_eq flags 0 then (codes " #") else (codes ", #")) ++ prefixed 4 mode)) out.old result out.new }
+    ensures printed { Prints T.sink (text_items ((if nat_eq flags 0 then (codes " #") else (codes ", #")) ++ prefixed 4 mode)) out.old result out.new }
 {
     write_either(out, flags == 0, b" #", b", #")?;
     write_prefixed(out, u32::from(mode))
@@ -61,7 +60,7 @@ pub(crate) fn write_cps<T: DisplaySink>(
     mode: Option<u16>,
     out: &mut T,
 ) -> Result<(), Fault>
-    ensures { Prints T.sink (behind_word (flag_row flags ++ mode_rows mode)) out.old result out.new }
+    ensures printed { Prints T.sink (behind_word (flag_row flags ++ mode_rows mode)) out.old result out.new }
 {
     write_cps_flags(flags, out)?;
     let Some(number) = mode else {

@@ -1,11 +1,10 @@
 // The word of a line: the mnemonic with what stands behind it, in an opcode span.
 ghost use Rattle.std.specs.Prelude.{◌≡◌, ◌++◌};
 ghost use Rattle.armv7.specs.Conditions.{condition_number as number_of};
-ghost use Rattle.opcode.specs.Names.{name_of};
 ghost use Rattle.sink.specs.Items.{text_items};
 ghost use Rattle.sink.specs.Printed.{Prints};
 ghost use Rattle.lines.specs.Forms.{suffix_text, block_letters, word_of};
-ghost use Rattle.lines.specs.Lines.{condition_suffix, suffix as suffix_of, word_items, it_letter};
+ghost use Rattle.lines.specs.Lines.{condition_suffix, word_items, it_letter};
 
 use armv7::{ConditionCode, Fault, Instruction};
 use lines::{Form, ItBlock, Suffix, letter_count, stack_word};
@@ -15,7 +14,7 @@ use text::{write_flagged, write_text};
 // The condition's letters, one after the other; AL has none.
 #[inline(always)]
 fn write_condition<T: DisplaySink>(condition: ConditionCode, out: &mut T) -> Result<(), Fault>
-    ensures { Prints T.sink (text_items (condition_suffix condition)) out.old result out.new }
+    ensures printed { Prints T.sink (text_items (condition_suffix condition)) out.old result out.new }
 {
     match condition {
         ConditionCode::AL => Ok(()),
@@ -29,7 +28,7 @@ fn write_condition<T: DisplaySink>(condition: ConditionCode, out: &mut T) -> Res
 
 #[inline(always)]
 fn write_suffix<T: DisplaySink>(suffix: Suffix, out: &mut T) -> Result<(), Fault>
-    ensures { Prints T.sink (text_items (suffix_text suffix)) out.old result out.new }
+    ensures printed { Prints T.sink (text_items (suffix_text suffix)) out.old result out.new }
 {
     write_flagged(out, suffix.s, b"s")?;
     write_condition(suffix.condition, out)?;
@@ -38,7 +37,7 @@ fn write_suffix<T: DisplaySink>(suffix: Suffix, out: &mut T) -> Result<(), Fault
 
 #[inline(always)]
 fn write_mnemonic<T: DisplaySink>(name: &[u8], suffix: Suffix, out: &mut T) -> Result<(), Fault>
-    ensures { Prints T.sink (text_items (name.now ++ suffix_text suffix)) out.old result out.new }
+    ensures printed { Prints T.sink (text_items (name.now ++ suffix_text suffix)) out.old result out.new }
 {
     write_text(out, name)?;
     write_suffix(suffix, out)
@@ -56,19 +55,19 @@ pub fn write_word<T: DisplaySink>(name: &[u8], suffix: Suffix, out: &mut T) -> R
 }
 
 fn condition_number(condition: ConditionCode) -> u32
-    ensures { result ≡ number_of condition }
+    ensures number { result ≡ number_of condition }
 {
     condition as u32
 }
 
 fn it_letter_at(condition: u32, bit: u32) -> u8
-    ensures { result ≡ it_letter condition bit }
+    ensures letter { result ≡ it_letter condition bit }
 {
     if condition % 2 == bit % 2 { b't' } else { b'e' }
 }
 
 fn write_it_letters<T: DisplaySink>(block: ItBlock, out: &mut T) -> Result<(), Fault>
-    ensures { Prints T.sink (text_items (block_letters block)) out.old result out.new }
+    ensures printed { Prints T.sink (text_items (block_letters block)) out.old result out.new }
 {
     let condition = condition_number(block.condition);
     let letters = [
@@ -86,7 +85,7 @@ fn write_it_mnemonic<T: DisplaySink>(
     block: ItBlock,
     out: &mut T,
 ) -> Result<(), Fault>
-    ensures { Prints T.sink (text_items (name.now ++ (suffix_text suffix ++ block_letters block))) out.old result out.new }
+    ensures printed { Prints T.sink (text_items (name.now ++ (suffix_text suffix ++ block_letters block))) out.old result out.new }
 {
     write_text(out, name)?;
     write_suffix(suffix, out)?;
@@ -103,7 +102,7 @@ fn write_it_word<T: DisplaySink>(
     block: ItBlock,
     out: &mut T,
 ) -> Result<(), Fault>
-    ensures { Prints T.sink (word_items (name.now ++ (suffix_text suffix ++ block_letters block))) out.old result out.new }
+    ensures printed { Prints T.sink (word_items (name.now ++ (suffix_text suffix ++ block_letters block))) out.old result out.new }
 {
     out.span_start_opcode();
     write_it_mnemonic(name, suffix, block, out)?;
@@ -111,24 +110,14 @@ fn write_it_word<T: DisplaySink>(
     Ok(())
 }
 
-// The opcode's name with all that stands behind it.
-#[inline(always)]
-pub(crate) fn write_own_word<T: DisplaySink>(
-    instruction: &Instruction,
-    out: &mut T,
-) -> Result<(), Fault>
-    ensures { Prints T.sink (word_items (name_of instruction.now.opcode ++ suffix_of instruction.now)) out.old result out.new }
-{
-    write_word(instruction.opcode.name(), Suffix::of(instruction), out)
-}
-
 // The word of an instruction, by its form.
+#[inline(always)]
 pub(crate) fn write_form_word<T: DisplaySink>(
     form: Form<'_>,
     instruction: &Instruction,
     out: &mut T,
 ) -> Result<(), Fault>
-    ensures { Prints T.sink (word_items (word_of form.entry instruction.now)) out.old result out.new }
+    ensures printed { Prints T.sink (word_items (word_of form.entry instruction.now)) out.old result out.new }
 {
     let name = instruction.opcode.name();
     let suffix = Suffix::of(instruction);
@@ -136,9 +125,8 @@ pub(crate) fn write_form_word<T: DisplaySink>(
         Form::Coprocessor(codes, _) => {
             write_word(name, Suffix::shown(codes.suffixes, instruction), out)
         }
-        Form::Stack(block) => write_word(stack_word(block.transfer.load), suffix, out),
-        Form::One { load, .. } => write_word(stack_word(load), suffix, out),
+        Form::Stack(form) => write_word(stack_word(form.load), suffix, out),
         Form::It(block) => write_it_word(name, suffix, block, out),
-        _ => write_own_word(instruction, out),
+        _ => write_word(name, suffix, out),
     }
 }

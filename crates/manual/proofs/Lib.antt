@@ -1,3 +1,2 @@
 pub mod Found
-mod Names
 pub mod Plains

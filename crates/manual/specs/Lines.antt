@@ -1,64 +1,52 @@
 -- The manual line: its items, and which instructions have none. Assumes nothing.
-use Rattle.std.specs.Prelude.{ℕ, Bool, true, false, cond, not, ◌&&◌, List, [], ◌∷◌, ◌++◌, Some, None, codes, Option}
-use Rattle.armv7.specs.declared.condition.ConditionCode.{ConditionCode}
+use Rattle.std.specs.Prelude.{false, List, [], ◌∷◌, ◌++◌, Some, None, codes, Option}
 use Rattle.armv7.specs.declared.instruction.Instruction.{Instruction}
-use Rattle.armv7.specs.declared.reg.Reg.{Reg}
 use Rattle.armv7.specs.Faults.{Refusal, refused_with, no_operand}
+use Rattle.opcode.specs.declared.Opcode.{Opcode}
+use Rattle.opcode.specs.declared.Opcode.TheVariants.{LDM, STM}
 use Rattle.sink.specs.Items.{Item, text_items}
-use Rattle.visitor.specs.Texts.{flagged, reg_items, list_items}
-use Rattle.lines.specs.declared.form.Block.{Block}
+use Rattle.visitor.specs.Texts.{reg_items, list_items}
+use Rattle.lines.specs.declared.alias.StackForm.{StackForm}
+use Rattle.lines.specs.declared.alias.Stacked.{Stacked}
+use Rattle.lines.specs.declared.alias.Stacked.TheVariants.{List as ListOf, One}
 use Rattle.lines.specs.Admission.{first_of, refused}
-use Rattle.lines.specs.Forms.{block_rows, Moved, many, one, moved}
-use Rattle.lines.specs.Lines.{Parts, condition_suffix, at_sp, stack_direction, stack_name, line_of}
+use Rattle.lines.specs.Lines.{Parts, suffix, stack_name, moved_parts, line_of}
+use Rattle.lines.specs.Moved.{Moved, stacked, transferred, moved}
 
--- sp with write-back and no user flag, upwards behind a load or downwards before a store; the opcode's own write-back flag does
--- not matter
-abbrev pub on_stack : Block → Bool
-on_stack b = stack_direction b.transfer.load b.transfer.add b.transfer.pre && (not b.transfer.user && (at_sp b.base && b.wback))
+-- without the opcode's own write-back flag
+abbrev pub without_flag : Opcode → Opcode
+without_flag (LDM add pre wback user) = LDM add pre false user
+without_flag (STM add pre wback user) = STM add pre false user
+without_flag other = other
 
--- where the addresses lie: increment after is not shown
-abbrev pub direction : Bool → Bool → List ℕ
-direction true false = []
-direction true true = codes "ib"
-direction false false = codes "da"
-direction false true = codes "db"
+-- without s and that flag, neither of which is shown
+abbrev pub bare : Instruction → Instruction
+bare i = record i { opcode = without_flag i.opcode; s = false }
 
-abbrev pub block_name : Bool → Bool → Bool → List ℕ
-block_name load add pre = cond load (codes "ldm") (codes "stm") ++ direction add pre
+-- the list of a pop or a push, or its register, which lies in one span
+abbrev pub stack_row : Stacked → List Item
+stack_row (ListOf mask) = list_items mask
+stack_row (One r) = text_items (codes "{") ++ (reg_items r ++ text_items (codes "}"))
 
--- condition and width: s is not shown
-abbrev pub manual_suffix : ConditionCode → Bool → List ℕ
-manual_suffix c w = condition_suffix c ++ flagged w (codes ".w")
+abbrev pub stack_parts : StackForm → Instruction → Parts
+stack_parts form i = record { word = stack_name form.load ++ suffix i; rows = stack_row form.moved ∷ [] }
 
--- a pop or a push shows its list alone
-abbrev pub block_parts : Block → List ℕ → Parts
-block_parts b suffix =
-    cond (on_stack b)
-    (record { word = stack_name b.transfer.load ++ suffix; rows = list_items b.mask ∷ [] })
-    (record { word = block_name b.transfer.load b.transfer.add b.transfer.pre ++ suffix; rows = block_rows b })
-
--- a register on its own lies in one span
-abbrev pub one_row : Reg → List Item
-one_row r = text_items (codes "{") ++ (reg_items r ++ text_items (codes "}"))
-
-abbrev pub one_parts : Bool → Reg → List ℕ → Parts
-one_parts load r suffix = record { word = stack_name load ++ suffix; rows = one_row r ∷ [] }
-
-abbrev pub moved_parts : Moved → List ℕ → Parts
-moved_parts (many b) suffix = block_parts b suffix
-moved_parts (one load r) suffix = one_parts load r suffix
+-- any other block transfer is shown as it is printed
+abbrev pub manual_parts : Moved → Instruction → Parts
+manual_parts (stacked form) i = stack_parts form i
+manual_parts (transferred b) i = moved_parts (transferred b) i
 
 -- an instruction that moves nothing of this kind has no manual form
 abbrev pub no_form : Option Moved → Option Refusal
 no_form None = Some (refused_with 11 no_operand)
 no_form (Some m) = None
 
-abbrev pub line_if : Option Moved → List ℕ → List Item
-line_if None suffix = []
-line_if (Some m) suffix = line_of (moved_parts m suffix)
+abbrev pub line_if : Option Moved → Instruction → List Item
+line_if None i = []
+line_if (Some m) i = line_of (manual_parts m i)
 
 unfoldable pub manual_refused : Instruction → Option Refusal
-manual_refused i = first_of (refused i) (no_form (moved i))
+manual_refused i = first_of (refused i) (no_form (moved (bare i)))
 
 unfoldable pub manual_line : Instruction → List Item
-manual_line i = line_if (moved i) (manual_suffix i.condition i.thumb_w)
+manual_line i = line_if (moved (bare i)) (bare i)

@@ -1,4 +1,3 @@
 pub mod Operands
-pub mod Shapes
 pub mod Texts
 pub mod Visits

@@ -1,4 +1,4 @@
-use Rattle.std.proofs.Common.{arith, map, length, take, drop, ◌-◌, ◌++◌, codes, ap}
+use Rattle.std.proofs.Common.{arith, map, length, take, drop, ◌-◌, codes, ap}
 use Rattle.std.proofs.lemmas.List.Elements.{All-take, All-drop}
 use Rattle.sink.specs.Items.{text_items}
 use Rattle.sink.proofs.Chain.{both, stop}
@@ -9,24 +9,21 @@ use Rattle.visitor.specs.Texts.{followed}
 use Rattle.visitor.proofs.Pieces.{renamed}
 use Rattle.lines.specs.Admission.{HasText}
 use Rattle.lines.specs.Lines.{behind_word}
-use Rattle.display.proofs.Followed.{at, first_split, printed_at}
+use Rattle.display.proofs.Followed.{at, some_there, first_split, printed_at}
 use Rattle.display.proofs.operands.write_operands.Goals as goal
-
-pub returns-in_err-write_text : goal.returns-in_err-write_text
-returns-in_err-write_text g c =
-    let os = c.args.reached.operands.now in
-    renamed (ap (λ l. behind_word (map operand_items l)) (first_split os c.in-len1-up.len_at_least))
-    (stop g.T.DisplaySink.sink (text_items (codes " ")) (operand_items (at os 0) ++ followed (map operand_items (take (length os - 1) (drop 1 os)))) c.from_residual.result c.in_err-write_text.field-0.0 c.in_err-write_text.ensures.printed c.from_residual.ensures.1)
 
 pub returns-in_err-write_operand : goal.returns-in_err-write_operand
 returns-in_err-write_operand g c =
     let sink = g.T.DisplaySink.sink in
     let os = c.args.reached.operands.now in
+    let some = some_there os c.if-is_empty.ensures in
     let o = at os 0 in
     let r = c.from_residual-in_err-write_operand in
-    renamed (ap (λ l. behind_word (map operand_items l)) (first_split os c.in-len1-up.len_at_least))
-    (both sink (text_items (codes " ")) _ c.in_ok-write_text.ensures.printed
-    (stop sink (operand_items o) (followed (map operand_items (take (length os - 1) (drop 1 os)))) r.result c.in_err-write_operand.field-0.0 (printed_at o (c.args.reached.clean 0 (One R0) c.in-len1-up.len_at_least) c.in_err-write_operand.ensures.printed_or_refused) r.ensures.1))
+    record {
+      printed = renamed (ap (λ l. behind_word (map operand_items l)) (first_split os some))
+          (both sink (text_items (codes " ")) _ c.in_ok-write_text.ensures.printed
+          (stop sink (operand_items o) (followed (map operand_items (take (length os - 1) (drop 1 os)))) r.result c.in_err-write_operand.field-0.0 (printed_at o (c.args.reached.clean 0 (One R0) some) c.in_err-write_operand.ensures.printed_or_refused) r.ensures.1));
+    }
 
 pub invariant_of-write_followed : goal.invariant_of-write_followed
 invariant_of-write_followed g c = record { few = omega (arith, c.args.reached.few); clean = All-take HasText _ _ (All-drop HasText 1 _ c.args.reached.clean) }
@@ -35,7 +32,10 @@ pub returns : goal.returns
 returns g c =
     let sink = g.T.DisplaySink.sink in
     let os = c.args.reached.operands.now in
+    let some = some_there os c.if-is_empty.ensures in
     let o = at os 0 in
-    renamed (ap (λ l. behind_word (map operand_items l)) (first_split os c.in-len1-up.len_at_least))
-    (both sink (text_items (codes " ")) _ c.in_ok-write_text.ensures.printed
-    (both sink (operand_items o) _ (printed_at o (c.args.reached.clean 0 (One R0) c.in-len1-up.len_at_least) c.in_ok-write_operand.ensures.printed_or_refused) c.write_followed.ensures))
+    record {
+      printed = renamed (ap (λ l. behind_word (map operand_items l)) (first_split os some))
+          (both sink (text_items (codes " ")) _ c.in_ok-write_text.ensures.printed
+          (both sink (operand_items o) _ (printed_at o (c.args.reached.clean 0 (One R0) some) c.in_ok-write_operand.ensures.printed_or_refused) c.write_followed.ensures.printed));
+    }

@@ -37,7 +37,7 @@ returns-in_err-write_list g c =
     let sink = g.T.DisplaySink.sink in
     let base = reg_items c.args.block.base ++ text_items (bang c.args.block.wback) in
     let list = list_items c.args.block.mask in
-    let caret = text_items (flagged c.args.block.transfer.user (codes "^")) in
+    let caret = text_items (flagged c.args.block.user (codes "^")) in
     let r = c.from_residual-in_err-write_list in
     record {
       printed = both sink (text_items (codes " ")) _ c.in_ok-write_text.ensures.printed
@@ -51,7 +51,7 @@ returns g c =
     let sink = g.T.DisplaySink.sink in
     let base = reg_items c.args.block.base ++ text_items (bang c.args.block.wback) in
     let list = list_items c.args.block.mask in
-    let caret = text_items (flagged c.args.block.transfer.user (codes "^")) in
+    let caret = text_items (flagged c.args.block.user (codes "^")) in
     record {
       printed = both sink (text_items (codes " ")) _ c.in_ok-write_text.ensures.printed
           (both sink base _ c.in_ok-write_reg_wback.ensures.printed

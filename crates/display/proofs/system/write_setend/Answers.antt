@@ -9,4 +9,4 @@ state true = refl
 state false = refl
 
 pub returns : goal.returns
-returns g c = renamed (state (eqb c.args.number 0)) c.write_either.ensures.printed
+returns g c = record { printed = renamed (state (eqb c.args.number 0)) c.write_either.ensures.printed }

@@ -8,5 +8,7 @@ pub returns-in_ok-write_text-in_default : goal.returns-in_ok-write_text-in_defau
 returns-in_ok-write_text-in_default g c =
     let n = c.name-name.result.now in
     let told = c.name-name.ensures in
-    renamed (ap text_items (letters_suffix _ n told.value told.size (grind arith)))
-    (texts g.T.DisplaySink.sink (take 1 n) (take 1 (drop 1 n)) c.in_ok-write_text-in_default.ensures.printed c.write_text-in_default.ensures.printed)
+    record {
+      printed = renamed (ap text_items (letters_suffix _ n told.value told.size (grind arith)))
+          (texts g.T.DisplaySink.sink (take 1 n) (take 1 (drop 1 n)) c.in_ok-write_text-in_default.ensures.printed c.write_text-in_default.ensures.printed);
+    }
