@@ -1,7 +1,9 @@
 // The four forms that are printed under another name.
-ghost use Rattle.std.specs.Prelude.{◌≡◌};
+ghost use Rattle.std.specs.Prelude.{◌≡◌, Bool, None};
+ghost use Rattle.std.specs.Bool.{OnFalse};
+ghost use Rattle.armv7.specs.declared.operand.Operand.{Operand};
 ghost use Rattle.lines.specs.Lines.{stack_name};
-ghost use Rattle.lines.specs.Moved.{on_stack, pop as pop_of, push as push_of};
+ghost use Rattle.lines.specs.Moved.{on_stack, stack_by, pop as pop_of, push as push_of};
 
 use crate::operands::has_two_only;
 use armv7::{Instruction, Opcode, Operand, Reg};
@@ -34,12 +36,26 @@ fn push(moved: Stacked) -> StackForm
     StackForm { load: false, moved }
 }
 
+// Is it an opcode that is a pop or a push, with some operands?
+#[inline(always)]
+fn may_stack(opcode: Opcode) -> bool
+    ensures others { OnFalse result ((first second : Operand) (only : Bool) → stack_by opcode first second only ≡ None) }
+{
+    matches!(
+        opcode,
+        Opcode::LDM(_, _, _, _) | Opcode::STM(_, _, _, _) | Opcode::LDR | Opcode::STR
+    )
+}
+
 // The form under another name that an instruction is, if it is one.
 // Kept: one match on the opcode with its flags and on operand cases, with guards, by a rule of the project (docs/DECISIONS.md).
 #[inline(always)]
 pub fn stack_form(instruction: &Instruction) -> Option<StackForm>
     ensures form { result ≡ on_stack instruction.now }
 {
+    if !may_stack(instruction.opcode) {
+        return None;
+    }
     let first = instruction.operands[0];
     let second = instruction.operands[1];
     match (instruction.opcode, first, second) {
