@@ -1,15 +1,16 @@
 -- The ink of every line, and what a sink of cells holds once a line was printed to it. Assumes nothing.
-use Rattle.std.specs.Prelude.{◌≡◌, ◌≢◌, List, ◌++◌, take, None, Some}
+use Rattle.std.specs.Prelude.{◌≡◌, ℕ, ◌≢◌, List, ◌++◌, take, None, Some}
 use Rattle.std.specs.List.{AllByRecursion}
 use Rattle.armv7.specs.declared.instruction.Instruction.{Instruction}
 use Rattle.armv7.specs.Faults.{Refusal}
-use Rattle.sink.specs.Items.{bytes}
+use Rattle.sink.specs.Items.{Item, bytes}
 use Rattle.sink.specs.Meaning.{room}
 use Rattle.sink.specs.Printed.{Printed}
+use Rattle.visitor.specs.Texts.{spanned}
 use Rattle.lines.specs.Admission.{refused}
 use Rattle.lines.specs.Lines.{parts, behind_word, line}
 use Rattle.cells.specs.declared.cell.Cell.{Cell}
-use Rattle.cells.specs.declared.cell.Ink.TheVariants.{Plain, Opcode as OpcodeInk}
+use Rattle.cells.specs.declared.cell.Ink.TheVariants.{Plain, Opcode as OpcodeInk, Register as RegisterInk}
 use Rattle.cells.specs.declared.painting.CellSink.{CellSink}
 use Rattle.cells.specs.CellSinks.{cells_of, cell_meaning, cell_sink}
 use Rattle.cells.specs.Inks.{painted, text_of, inked, ink_behind}
@@ -37,8 +38,10 @@ pub record InkedWhole (i : Instruction) (s t : CellSink) : Type 0 where
 abbrev pub InkedPart : Instruction → CellSink → CellSink → Type 0
 InkedPart i s t = cells_of t ≡ cells_of s ++ take (room (cell_meaning s)) (line_cells i)
 
--- of every line that is printed, and of every sink of plain ink that it was printed to, whole or in part
+-- of every line that is printed, and of every sink of plain ink that it was printed to, whole or in part; and of a name in a register
+-- span, wherever it stands in plain ink
 pub record LinesAreInked : Type 0 where
   pub inks : (i : Instruction) → refused i ≡ None → InkedLine i
+  pub names : (name : List ℕ) (behind : List Item) → inked Plain (spanned name ++ behind) ≡ painted RegisterInk name ++ inked Plain behind
   pub whole : (i : Instruction) → refused i ≡ None → (s t : CellSink) → s.ink ≡ Plain → Printed cell_sink (line i) s None t → InkedWhole i s t
   pub part : (i : Instruction) → refused i ≡ None → (s t : CellSink) → s.ink ≡ Plain → (f : Refusal) → Printed cell_sink (line i) s (Some f) t → InkedPart i s t

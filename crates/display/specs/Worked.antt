@@ -23,21 +23,21 @@ two op a b = made AL op (a ∷ b ∷ Nothing ∷ Nothing ∷ [])
 abbrev branch : ℤ → Instruction
 branch z = two B (BranchOffset z) Nothing
 
-abbrev Prints : Instruction → List ℕ → Type 0
-Prints i text = (refused i ≡ None) × (bytes (line i) ≡ text)
+abbrev Shows : Instruction → List ℕ → Type 0
+Shows i text = (refused i ≡ None) × (bytes (line i) ≡ text)
 
 pub record WorkedLines : Type 0 where
-  pub pop_list : Prints (two (LDM true false false false) (RegWBack R13 true) (RegList 0x8010)) (codes "pop {r4, pc}")
-  pub not_a_pop : Prints (two (LDM true false true false) (RegWBack R13 true) (RegList 0x8010)) (codes "ldm sp!, {r4, pc}")
-  pub push_list : Prints (made EQ (STM false true false false) (RegWBack R13 true ∷ RegList 0x4010 ∷ Nothing ∷ Nothing ∷ [])) (codes "pusheq {r4, lr}")
-  pub pop_one : Prints (two LDR (One R3) (RegDerefPostindexOffset R13 4 true false)) (codes "pop {r3}")
+  pub pop_list : Shows (two (LDM true false false false) (RegWBack R13 true) (RegList 0x8010)) (codes "pop {r4, pc}")
+  pub not_a_pop : Shows (two (LDM true false true false) (RegWBack R13 true) (RegList 0x8010)) (codes "ldm sp!, {r4, pc}")
+  pub push_list : Shows (made EQ (STM false true false false) (RegWBack R13 true ∷ RegList 0x4010 ∷ Nothing ∷ Nothing ∷ [])) (codes "pusheq {r4, lr}")
+  pub pop_one : Shows (two LDR (One R3) (RegDerefPostindexOffset R13 4 true false)) (codes "pop {r3}")
   pub pop_one_marks : length (marks_from 0 (line (two LDR (One R3) (RegDerefPostindexOffset R13 4 true false)))) ≡ 6
-  pub load_one : Prints (two LDR (One R3) (RegDerefPostindexOffset R13 8 true false)) (codes "ldr r3, [sp], 0x8")
-  pub it_then : Prints (two IT (Imm32 1) (Imm32 12)) (codes "itt ne")
-  pub it_else : Prints (two IT (Imm32 0) (Imm32 12)) (codes "ite eq")
-  pub interrupts : Prints (two (CPS false) (Imm12 3) (Imm12 0x13)) (codes "cpsie if, #0x13")
-  pub coprocessor : Prints (made AL (MRC2 15 0 2) (One R0 ∷ Control C1 ∷ Control C2 ∷ Nothing ∷ [])) (codes "mrc2 p15, 0, r0, c1, c2, 2")
-  pub backwards : Prints (branch (negsuc 1)) (codes "b $-0x8")
-  pub here : Prints (branch (pos 0)) (codes "b $+0x0")
-  pub furthest : Prints (branch (pos 536870911)) (codes "b $+0x7ffffffc")
+  pub load_one : Shows (two LDR (One R3) (RegDerefPostindexOffset R13 8 true false)) (codes "ldr r3, [sp], 0x8")
+  pub it_then : Shows (two IT (Imm32 1) (Imm32 12)) (codes "itt ne")
+  pub it_else : Shows (two IT (Imm32 0) (Imm32 12)) (codes "ite eq")
+  pub interrupts : Shows (two (CPS false) (Imm12 3) (Imm12 0x13)) (codes "cpsie if, #0x13")
+  pub coprocessor : Shows (made AL (MRC2 15 0 2) (One R0 ∷ Control C1 ∷ Control C2 ∷ Nothing ∷ [])) (codes "mrc2 p15, 0, r0, c1, c2, 2")
+  pub backwards : Shows (branch (negsuc 1)) (codes "b $-0x8")
+  pub here : Shows (branch (pos 0)) (codes "b $+0x0")
+  pub furthest : Shows (branch (pos 536870911)) (codes "b $+0x7ffffffc")
   pub too_far : refused (branch (pos 536870912)) ≡ Some (refused_with 8 0)

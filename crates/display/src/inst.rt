@@ -14,7 +14,7 @@ use sink::DisplaySink;
 
 // The line of an instruction that shows its own operands.
 // Kept: most lines by themselves, inline. By the matches of `write_formed`, a line of a typical program takes 11 instructions more,
-// 1.42 times the original's in place of 1.37, and misses its bar of 1.40 (docs/SPEED.md).
+// and misses its bar (docs/SPEED.md).
 #[inline(always)]
 fn write_plain<T: DisplaySink>(
     reached: Reached<'_>,

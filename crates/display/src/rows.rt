@@ -68,7 +68,8 @@ fn write_code<T: DisplaySink>(code: Option<u8>, out: &mut T) -> Result<(), Fault
 
 // The coprocessor and the code behind it.
 fn write_codes<T: DisplaySink>(numbers: Codes, out: &mut T) -> Result<(), Fault>
-    ensures printed { Prints T.sink (text_items (codes " p") ++ (text_items (decimal numbers.coprocessor) ++ followed (map code_row (optional numbers.second)))) out.old result out.new }
+    ensures printed { Prints T.sink (text_items (codes " p") ++ (text_items (decimal numbers.coprocessor) ++ followed (map code_row (optional numbers.second))))
+        out.old result out.new }
 {
     write_text(out, b" p")?;
     write_decimal(out, numbers.coprocessor)?;

@@ -6,7 +6,7 @@ use Rattle.armv7.specs.declared.operand.Operand.TheVariants.{Reg as Register, Re
 use Rattle.armv7.specs.declared.reg.Reg.{Reg}
 use Rattle.armv7.specs.Registers.{reg_number}
 use Rattle.kind.specs.declared.Kind.{Kind}
-use Rattle.kind.specs.declared.Kind.TheVariants.{Block as Transfer}
+use Rattle.kind.specs.declared.Kind.TheVariants.{Block as BlockKind}
 use Rattle.kind.specs.Kinds.{kind_of}
 use Rattle.opcode.specs.declared.Opcode.{Opcode}
 use Rattle.opcode.specs.declared.Opcode.TheVariants.{LDM, STM, LDR, STR}
@@ -49,7 +49,7 @@ pub data Moved : Type 0 where
 
 abbrev pub moved_by : Option StackForm → Kind → Operand → Operand → Option Moved
 moved_by (Some form) kind first second = Some (stacked form)
-moved_by None (Transfer user) (RegWBack b w) (RegList mask) = Some (transferred (record { base = b; wback = w; mask = mask; user = user }))
+moved_by None (BlockKind user) (RegWBack b w) (RegList mask) = Some (transferred (record { base = b; wback = w; mask = mask; user = user }))
 moved_by None kind first second = None
 
 abbrev pub moved : Instruction → Option Moved

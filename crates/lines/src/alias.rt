@@ -37,6 +37,8 @@ fn push(moved: Stacked) -> StackForm
 }
 
 // Is it an opcode that is a pop or a push, with some operands?
+// Kept: asked first, so that the operands of other opcodes are not looked at: without, a line takes 12 instructions more, and misses
+// its bar (docs/SPEED.md).
 #[inline(always)]
 fn may_stack(opcode: Opcode) -> bool
     ensures others { OnFalse result ((first second : Operand) (only : Bool) → stack_by opcode first second only ≡ None) }

@@ -3,7 +3,7 @@ use Rattle.std.proofs.Common.{◌≡◌, Some, None, Option, refl, ap, ap₂, �
 use Rattle.armv7.specs.declared.instruction.Instruction.{Instruction}
 use Rattle.armv7.specs.Faults.{Refusal}
 use Rattle.kind.specs.declared.Kind.{Kind}
-use Rattle.kind.specs.declared.Kind.TheVariants.{Block as Transfer}
+use Rattle.kind.specs.declared.Kind.TheVariants.{Block as BlockKind}
 use Rattle.kind.specs.Kinds.{kind_of}
 use Rattle.opcode.specs.declared.Opcode.{Opcode}
 use Rattle.opcode.specs.declared.Opcode.TheVariants.{LDM, STM}
@@ -30,7 +30,7 @@ same_kind (STM add pre wback user) = refl
 same_kind other = refl
 
 same_by : (k : Kind) (i : Instruction) → refused_by k (bare i) ≡ refused_by k i
-same_by (Transfer user) i = refl
+same_by (BlockKind user) i = refl
 same_by other i = refl
 
 -- nor what it is refused for

@@ -5,7 +5,7 @@ use Rattle.armv7.specs.declared.instruction.Instruction.{Instruction}
 use Rattle.armv7.specs.declared.operand.Operand.TheVariants.{RegWBack, RegList}
 use Rattle.armv7.specs.declared.reg.Reg.{Reg}
 use Rattle.armv7.specs.Registers.{reg_name}
-use Rattle.kind.specs.declared.Kind.TheVariants.{Block as Transfer}
+use Rattle.kind.specs.declared.Kind.TheVariants.{Block as BlockKind}
 use Rattle.opcode.specs.declared.Opcode.TheVariants.{LDM, STM}
 use Rattle.sink.specs.declared.sink.Edge.TheVariants.{End}
 use Rattle.sink.specs.declared.sink.Span.TheVariants.{Register}
@@ -25,9 +25,9 @@ same_name (x ∷ n) end = ap (λ r. x ∷ r) (same_name n end)
 
 -- a list under another name, or as the block transfer that it is
 abbrev listed : Bool → Bool → Block → Option Moved
-listed test load b = moved_by (when test (record { load = load; moved = ListOf b.mask })) (Transfer b.user) (RegWBack b.base b.wback) (RegList b.mask)
+listed test load b = moved_by (when test (record { load = load; moved = ListOf b.mask })) (BlockKind b.user) (RegWBack b.base b.wback) (RegList b.mask)
 
-list_plain : (test load : Bool) (b : Block) (i : Instruction) → line_if (listed test load b) i ≡ line_of (parts_by (listed test load b) (Transfer b.user) i)
+list_plain : (test load : Bool) (b : Block) (i : Instruction) → line_if (listed test load b) i ≡ line_of (parts_by (listed test load b) (BlockKind b.user) i)
 list_plain true load b i = refl
 list_plain false load b i = refl
 

@@ -3,7 +3,7 @@ ghost use Rattle.std.specs.Prelude.{◌≡◌, ◌≤◌, [], ◌∷◌, ◌++�
 ghost use Rattle.kind.specs.Kinds.{optional};
 ghost use Rattle.sink.specs.Items.{bytes};
 ghost use Rattle.visitor.specs.Operands.{operand_items};
-ghost use Rattle.visitor.specs.Texts.{decimal, list_items, followed};
+ghost use Rattle.visitor.specs.Texts.{list_items, followed};
 ghost use Rattle.lines.specs.Admission.{HasText};
 ghost use Rattle.lines.specs.Lines.{block_rows as rows_of_block, code_row, code_rows, flag_row, mode_rows, stack_row as row_on_stack};
 ghost use Rattle.lines.specs.Forms.{rows_of};

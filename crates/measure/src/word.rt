@@ -1,5 +1,5 @@
 // The size of a line's word.
-ghost use Rattle.std.specs.Prelude.{◌≡◌, ◌≤◌, length, if◌then◌else◌};
+ghost use Rattle.std.specs.Prelude.{◌≡◌, ◌≤◌, length};
 ghost use Rattle.lines.specs.Lines.{condition_suffix};
 ghost use Rattle.lines.specs.Forms.{suffix_text, word_of};
 

@@ -30,11 +30,13 @@ fn fit<S: RoomSink>(out: &S, size: usize) -> Result<(), Fault>
 
 // Where there may be no room for the longest line: refuses an instruction whose line is too long, with its line break, or that has
 // no line.
-// Kept: nothing is measured, and so nothing refused, where there is room for the longest line: a page is held to a bar of speed
-// (docs/SPEED.md).
+// Kept: nothing is measured, and so nothing refused, where there is room for the longest line: with its measure, a print takes 314
+// instructions more, and a page misses its bar (docs/SPEED.md).
 fn fit_line<S: RoomSink>(instruction: &Instruction, out: &S) -> Result<(), Fault>
-    ensures refusal { IfErr result (λ f. Some (refusal_of f) ≡ row_refused (refused instruction.now) (room_of (S.DisplaySink.sink.meaning out.now)) (length (bytes (line instruction.now)))) }
-    ensures fits { IfOk result (λ _. refused instruction.now ≡ row_refused (refused instruction.now) (room_of (S.DisplaySink.sink.meaning out.now)) (length (bytes (line instruction.now)))) }
+    ensures refusal { IfErr result (λ f. Some (refusal_of f)
+        ≡ row_refused (refused instruction.now) (room_of (S.DisplaySink.sink.meaning out.now)) (length (bytes (line instruction.now)))) }
+    ensures fits { IfOk result (λ _. refused instruction.now
+        ≡ row_refused (refused instruction.now) (room_of (S.DisplaySink.sink.meaning out.now)) (length (bytes (line instruction.now)))) }
 {
     if out.room() > LONGEST {
         return Ok(());

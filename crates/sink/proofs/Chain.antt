@@ -41,7 +41,7 @@ handed_both a b m h =
 handed_cut : (a b : List Item) (m : Meaning) → room m < length (bytes a) → handed (a ++ b) m ≡ handed a m
 handed_cut a b m h = ap (λ is. taken is m) (fitting_cut (room m) a b h)
 
-full_fits : (n k : ℕ) → None ≡ full_below n k → k ≤ n
+pub full_fits : (n k : ℕ) → None ≡ full_below n k → k ≤ n
 full_fits n k e = by (ltb n k) (ltb-false n k) e
   where
     by : (t : Bool) → (t ≡ false → k ≤ n) → None ≡ cond t (Some (refused_with 9 no_operand)) None → k ≤ n

@@ -80,7 +80,8 @@ fn fill<T: Copy>(memory: &mut [T], used: &mut usize, piece: &[T])
 
 // Puts as much of the piece as there is room for behind the first `used` elements, counts it to them, and refuses a piece that is
 // longer.
-// Kept: short pieces by themselves, since with one copy for all lengths a printer misses its bar of speed (docs/SPEED.md).
+// Kept: short pieces by themselves, since with one copy for all lengths a line takes 214 instructions more, and misses its bar
+// (docs/SPEED.md).
 #[inline(always)]
 pub(crate) fn append<T: Copy>(memory: &mut [T], used: &mut usize, piece: &[T]) -> Result<(), Fault>
     requires { used.old ≤ length memory.old }

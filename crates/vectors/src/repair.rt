@@ -51,13 +51,7 @@ fn has_large_code(codes: Codes) -> bool {
 
 // Of an IT condition the original takes the low byte, and of a mask four bits.
 fn it_operands(operands: [Operand; 4], seen: &mut Seen) -> [Operand; 4] {
-    let [
-        Operand::Imm32(condition),
-        Operand::Imm32(mask),
-        third,
-        fourth,
-    ] = operands
-    else {
+    let (Operand::Imm32(condition), Operand::Imm32(mask)) = (operands[0], operands[1]) else {
         return operands;
     };
     if condition > 255 && condition % 256 < 15 {
@@ -69,24 +63,30 @@ fn it_operands(operands: [Operand; 4], seen: &mut Seen) -> [Operand; 4] {
     [
         Operand::Imm32(condition % 256),
         Operand::Imm32(mask % 16),
-        third,
-        fourth,
+        operands[2],
+        operands[3],
     ]
 }
 
 // Of CPS flags the original shows three, and of a second operand only a mode.
 fn cps_operands(operands: [Operand; 4], seen: &mut Seen) -> [Operand; 4] {
-    let [Operand::Imm12(flags), second, third, fourth] = operands else {
+    let Operand::Imm12(flags) = operands[0] else {
         return operands;
     };
+    let second = operands[1];
     if flags > 7 {
         seen.add(Difference::CpsFlags);
     }
     if !stops(second) && !is_too_far(second) {
-        return [Operand::Imm12(flags % 8), second, third, fourth];
+        return [Operand::Imm12(flags % 8), second, operands[2], operands[3]];
     }
     seen.add(Difference::CpsUnshown);
-    [Operand::Imm12(flags % 8), Operand::Nothing, third, fourth]
+    [
+        Operand::Imm12(flags % 8),
+        Operand::Nothing,
+        operands[2],
+        operands[3],
+    ]
 }
 
 pub(crate) fn repaired(asked: &Instruction, seen: &mut Seen) -> Instruction {

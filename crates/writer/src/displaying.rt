@@ -178,8 +178,8 @@ fn write_visited<T: DisplaySink>(out: &mut T, operand: &Operand) -> Result<(), F
 }
 
 // Writes the text of the operand, or refuses it before anything is written.
-// Kept: registers with no visit. By a visit, the lines of a typical program take 38 instructions more each, 1.47 times the
-// original's in place of 1.33, and miss their bar of 1.40 (docs/SPEED.md).
+// Kept: registers with no visit. By a visit, a line of a typical program takes 37 instructions more, and misses its bar
+// (docs/SPEED.md).
 #[inline(always)]
 pub fn write_operand<T: DisplaySink>(out: &mut T, operand: &Operand) -> Result<(), Fault>
     ensures printed_or_refused { PrintsUnless T.sink (operand_refused 0 operand.now) (operand_items operand.now) out.old result out.new }

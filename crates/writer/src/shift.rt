@@ -14,8 +14,9 @@ use text::{write_decimal, write_reg, write_text};
 fn write_style<T: DisplaySink>(out: &mut T, stype: ShiftStyle) -> Result<(), Fault>
     ensures printed { Prints T.sink (text_items (style_text stype)) out.old result out.new }
 {
-    let name = stype.name();
-    write_text(out, &[b',', b' ', name[0], name[1], name[2], b' '])
+    write_text(out, b", ")?;
+    write_text(out, stype.name())?;
+    write_text(out, b" ")
 }
 
 // A number behind the kind of a shift.

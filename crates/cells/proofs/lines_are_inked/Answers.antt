@@ -6,7 +6,7 @@ use Rattle.blocks.proofs.Bounds.{lines_bounded}
 use Rattle.cells.specs.declared.cell.Ink.TheVariants.{Plain}
 use Rattle.cells.specs.InkedLines.{InkedLine}
 use Rattle.cells.proofs.Behind.{no_opcode_line}
-use Rattle.cells.proofs.Inked.{inked_bytes, inked_word, settled, printed_part, printed_whole}
+use Rattle.cells.proofs.Inked.{inked_bytes, inked_word, inked_name, settled, printed_part, printed_whole}
 use Rattle.cells.proofs.Registers.{other_inks}
 use Rattle.cells.proofs.lines_are_inked.Goals as goal
 
@@ -23,6 +23,7 @@ pub returns : goal.returns
 returns c = record {
   inked_lines = record {
     inks = inked_line;
+    names = inked_name;
     whole = λ i h s t plain p. let a = printed_whole (line i) s t plain p in record { cells = a.0; plain_again = a.1 ∙ (inked_line i h).plain_again };
     part = λ i h s t plain f p. printed_part (line i) s t plain _ p;
   };
