@@ -1,4 +1,4 @@
-use Rattle.std.proofs.Common.{◌≡◌, List, [], ◌∷◌, Some, None, Option, subst}
+use Rattle.std.proofs.Common.{List, [], ◌∷◌, Some, None, Option, subst}
 use Rattle.armv7.specs.Faults.{Refusal}
 use Rattle.sink.specs.Items.{Item, byte}
 use Rattle.sink.specs.Meaning.{SinkOf}
