@@ -45,7 +45,7 @@ fn write_stack_row<T: DisplaySink>(moved: Stacked, out: &mut T) -> Result<(), Fa
 }
 
 // The base and the list of a block transfer.
-fn write_block<T: DisplaySink>(block: Block, out: &mut T) -> Result<(), Fault>
+pub fn write_block<T: DisplaySink>(block: Block, out: &mut T) -> Result<(), Fault>
     ensures printed { Prints T.sink (behind_word (block_rows block)) out.old result out.new }
 {
     write_text(out, b" ")?;
