@@ -1,6 +1,6 @@
 use Rattle.std.proofs.Common.{◌≡◌, ◌^◌, ◌<◌, ◌++◌, length, take, drop, sym, ap, ◌∙◌, arith}
 use Rattle.sink.specs.Outcome.{outcome}
-use Rattle.sink.specs.TextSinks.{text_meaning}
+use Rattle.sink.specs.TextSinks.{text_meaning, text_sink}
 use Rattle.lines.specs.Admission.{refused}
 use Rattle.lines.specs.Lines.{line}
 use Rattle.blocks.proofs.Bounds.{lines_bounded}
@@ -10,7 +10,7 @@ use Rattle.buffer.proofs.InstructionTextBuffer.format_inst.Goals as goal
 pub shape_of-self : goal.shape_of-self
 shape_of-self c =
     let i = c.args.instruction.now in
-    let told = held (line i) _ c.new-out.result c.visit_inst-answer.new.out (outcome c.visit_inst-answer.result) (refused i) c.new-out.ensures.empty (λ e. omega (arith, (lines_bounded i e).size)) c.visit_inst-answer.ensures.printed_or_refused in
+    let told = held text_sink (line i) _ _ c.new-out.result c.visit_inst-answer.new.out (outcome c.visit_inst-answer.result) (refused i) c.new-out.ensures.empty (λ e. omega (arith, (lines_bounded i e).size)) c.visit_inst-answer.ensures.printed_or_refused in
     sym (told.rest.memory ∙ c.new-out.ensures.memory.1)
 
 pub returns : goal.returns
@@ -18,7 +18,7 @@ returns c =
     let i = c.args.instruction.now in
     let empty = c.new-out.result in
     let full = c.visit_inst-answer.new.out in
-    let told = held (line i) _ empty full (outcome c.visit_inst-answer.result) (refused i) c.new-out.ensures.empty (λ e. omega (arith, (lines_bounded i e).size)) c.visit_inst-answer.ensures.printed_or_refused in
+    let told = held text_sink (line i) _ _ empty full (outcome c.visit_inst-answer.result) (refused i) c.new-out.ensures.empty (λ e. omega (arith, (lines_bounded i e).size)) c.visit_inst-answer.ensures.printed_or_refused in
     let begun = c.new-out.ensures.memory.0 in
     let ended = c.end-size.ensures.memory in
     let front = take c.end-size.result c.end-size.new.self.0 in
