@@ -50,9 +50,13 @@ fn run(rt: &HostRuntime) -> anyhow::Result<()> {
     }
     let record = record_of(rt, &options)?;
     let written = written::of(rt.alloc(), record.as_slice(), &options)?;
-    rt.print(written.output.as_str())?;
-    rt.eprint(written.messages.as_str())?;
-    if written.misread > 0 {
+    for text in written.output() {
+        rt.print(text)?;
+    }
+    for text in written.messages() {
+        rt.eprint(text)?;
+    }
+    if written.misreadings.count > 0 {
         return Err(anyhow!("a line of the record could not be read"));
     }
     Ok(())

@@ -154,6 +154,12 @@ fn written(heap: Global, command: &str, record: &[u8]) -> anyhow::Result<Written
     Ok(written::of(heap, record, &options)?)
 }
 
+// What is written one behind the other.
+fn joined(heap: Global, texts: [&str; 2]) -> Result<String, AllocError> {
+    let [first, second] = texts;
+    format!(in heap; "{first}{second}")
+}
+
 // What is said of a command that is refused.
 fn said(heap: Global, command: &str) -> Result<Option<String>, AllocError> {
     match asked(heap, command) {
@@ -166,9 +172,17 @@ fn said(heap: Global, command: &str) -> Result<Option<String>, AllocError> {
 fn options_are_followed(rt: HostRuntime) -> Result<(), Fail> {
     for (command, output, messages) in WRITTEN {
         let written = written(rt.alloc(), command, RECORD)?;
-        assert_eq!(rt; written.output.as_str(), output, "by {command}");
-        assert_eq!(rt; written.messages.as_str(), messages, "by {command}");
-        assert_eq!(rt; written.misread, 0);
+        assert_eq!(rt;
+            joined(rt.alloc(), written.output())?.as_str(),
+            output,
+            "by {command}"
+        );
+        assert_eq!(rt;
+            joined(rt.alloc(), written.messages())?.as_str(),
+            messages,
+            "by {command}"
+        );
+        assert_eq!(rt; written.misreadings.count, 0);
     }
     Ok(())
 }
@@ -205,8 +219,8 @@ line 6: page line 2, gap
     let messages = "line 2, column 5: the end of the line was expected, found \\xff
 line 5, column 16: condition was expected, found the end of the line
 ";
-    assert_eq!(rt; written.output.as_str(), output);
-    assert_eq!(rt; written.messages.as_str(), messages);
-    assert_eq!(rt; written.misread, 2);
+    assert_eq!(rt; joined(rt.alloc(), written.output())?.as_str(), output);
+    assert_eq!(rt; joined(rt.alloc(), written.messages())?.as_str(), messages);
+    assert_eq!(rt; written.misreadings.count, 2);
     Ok(())
 }
