@@ -89,6 +89,10 @@ fn judge_refusal(fault: Fault, taken: &Instruction, answer: Answer<'_>, mut seen
     }
 }
 
+fn is_refused_so(heap: Global, asked: &Instruction, seen: &Seen) -> Result<bool, AllocError> {
+    Ok(print(heap, asked)?.is_err_and(|fault| seen.refuse(fault)))
+}
+
 // `read` has what was put right already while the case was read.
 pub(crate) fn judge(
     heap: Global,
@@ -99,9 +103,8 @@ pub(crate) fn judge(
     let mut seen = Seen::nothing();
     let taken = repaired(asked, &mut seen);
 
-    // What was asked is refused as one of the differences that were seen is; what was not repaired is judged as it is.
-    let refused_so = print(heap, asked)?.is_err_and(|fault| seen.refuse(fault));
-    if !seen.is_empty() && !refused_so {
+    // What was repaired is refused as one of the differences that were seen is; what was not is judged as it is.
+    if !seen.is_empty() && !is_refused_so(heap, asked, &seen)? {
         return Ok(Verdict::Unexplained);
     }
     let seen = seen.joined(read);
