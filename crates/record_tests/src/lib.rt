@@ -9,7 +9,7 @@ mod tests {
     use std::test::Fail;
 
     // Damaged lines, each with what is said of it as line 7.
-    const DAMAGED: [(&[u8], &str); 13] = [
+    const DAMAGED: [(&[u8], &str); 15] = [
         (
             b"gop",
             "line 7, column 1: gap or Instruction was expected, found gop",
@@ -62,6 +62,14 @@ mod tests {
             b"Instruction { condition: AL, opcode: B, operands: [BranchOffset(-2147483649)",
             "line 7, column 66: a number from -2147483648 to 2147483647 was expected, found 2147483649",
         ),
+        (
+            b"gap gap",
+            "line 7, column 5: the end of the line was expected, found gap",
+        ),
+        (
+            b"Instr",
+            "line 7, column 1: gap or Instruction was expected, found Instr",
+        ),
     ];
 
     fn said(heap: Global, line: &[u8]) -> Result<Option<String>, AllocError> {
@@ -88,11 +96,13 @@ mod tests {
         assert!(rt; refusal(DAMAGED[10].0) == Some(Fault::Register));
         assert!(rt; refusal(DAMAGED[11].0) == Some(Fault::ShiftWord));
         assert!(rt; refusal(DAMAGED[0].0) == None);
+        assert!(rt; refusal(DAMAGED[13].0) == None);
     }
 
     #[test]
     fn blanks_comments_and_gaps_are_read(rt: HostRuntime) {
         assert!(rt; matches!(read_line(b" \t"), Ok(None)));
+        assert!(rt; matches!(read_line(b"  # anything { at all"), Ok(None)));
         assert!(rt; matches!(read_line(b"  # anything { at all \xff"), Ok(None)));
         assert!(rt; matches!(read_line(b" gap\r"), Ok(Some(Call::Gap))));
     }
